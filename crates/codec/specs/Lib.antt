@@ -1,0 +1,6 @@
+pub mod Refusal
+pub mod Output
+pub mod Vlq
+pub mod Signed
+pub mod BigEndian
+pub mod Rule
