@@ -1,0 +1,5 @@
+pub mod Signed
+pub mod BigEndian
+pub mod Output
+pub mod Vlq
+pub mod VlqTrip
