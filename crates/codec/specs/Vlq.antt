@@ -1,10 +1,11 @@
 -- Numbers of variable length (VLQ): seven bits a byte, low first, the high bit continues. docs/RULES.md, "Settings update".
 -- Assumes nothing.
-use Prim.Native.Nat.{ℕ, zero, suc, _+_, _*_, _/_, _%_, _^_}
+use Prim.Native.Nat.{ℕ, zero, suc, _+_, _*_, _/_, _%_, _^_, _≤_, _<_}
 use mathlib.Core.Bool.{Bool, true, false, cond}
-use mathlib.Core.List.{List, [], _∷_}
+use mathlib.Core.Path.{_≡_}
+use mathlib.Core.List.{List, [], _∷_, _++_}
 use lib.Dec.{ltb}
-use lib.ListN.{drop}
+use lib.ListN.{length, drop}
 use Rattle.codec.specs.declared.vlq.Read.{Read}
 use Rattle.codec.specs.declared.vlq.Read.the-variants.{Value, Unreadable}
 
@@ -60,3 +61,9 @@ shortestOf (suc n) x = cond (ltb x 128) (x ∷ []) ((128 + x % 128) ∷ shortest
 -- ten bytes hold every number of 64 bits
 unfoldable pub vlqBytes : ℕ → List ℕ
 vlqBytes x = shortestOf 10 x
+
+-- what the shortest form of x promises, at every width: followed by any bytes it is read back, with the number of its bytes;
+-- and no bytes from which x is read are fewer
+pub record Shortest (x : ℕ) : Type 0 where
+  pub reads-back : (width : ℕ) (after : List ℕ) → width ≤ 64 → x < 2 ^ width → vlqOf width (vlqBytes x ++ after) ≡ found x (length (vlqBytes x))
+  pub least : (width n : ℕ) (s : List ℕ) → vlqOf width s ≡ found x n → length (vlqBytes x) ≤ n

@@ -1,6 +1,5 @@
 // Rule ids, and the offsets that stand for them on the wire. docs/RULES.md, "Settings update".
 use crate::signed::i16_of;
-
 ghost use mathlib.Core.Path.{_≡_};
 ghost use Rattle.codec.specs.Rule.{ruleOf};
 

@@ -1,12 +1,11 @@
 // Numbers of variable length (VLQ): seven bits a byte, low first, the high bit continues. docs/RULES.md, "Settings update".
 use crate::output::Wrote;
 use crate::refusal::OUTPUT_SHORT;
-
 ghost use mathlib.Core.Path.{_≡_};
 ghost use lib.ListN.{length, drop};
 ghost use lib.Seq.{sets};
 ghost use Rattle.codec.specs.Output.{outcome, writes};
-ghost use Rattle.codec.specs.Vlq.{numberOf, low64, below, placed, vlqAt, vlqBytes};
+ghost use Rattle.codec.specs.Vlq.{numberOf, low64, below, placed, vlqAt, vlqBytes, Shortest};
 
 // A number that was read, and the position after its bytes.
 pub struct Number {
@@ -96,6 +95,7 @@ pub fn size(x: u64) -> usize
 // Writes the shortest form of x from the buffer's start.
 pub fn write(x: u64, out: &mut [u8]) -> Wrote
     ensures { λ r. ⌜ outcome r (now (out .exit)) ≡ writes (vlqBytes x) (now (out .entry)) ⌝ }
+    ensures shortest { λ r. ⌜ Shortest x ⌝ }
 {
     let n = size(x);
     if out.len() < n {

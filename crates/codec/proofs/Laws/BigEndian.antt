@@ -62,6 +62,13 @@ four (a ∷ b ∷ c ∷ []) l = absurd (omega arith)
 four (a ∷ b ∷ c ∷ d ∷ []) l = refl
 four (a ∷ b ∷ c ∷ d ∷ e ∷ bs) l = absurd (omega arith)
 
+pub four-small : (a b c d : ℕ) → a < 256 → b < 256 → c < 256 → d < 256 → (i : ℕ) → getD (a ∷ b ∷ c ∷ d ∷ []) i 0 < 256
+four-small a b c d ha hb hc hd zero = ha
+four-small a b c d ha hb hc hd (suc zero) = hb
+four-small a b c d ha hb hc hd (suc (suc zero)) = hc
+four-small a b c d ha hb hc hd (suc (suc (suc zero))) = hd
+four-small a b c d ha hb hc hd (suc (suc (suc (suc i)))) = omega arith
+
 pub four-bytes : (n : ℕ) → (n / 0x100_0000 % 256) ∷ (n / 0x1_0000 % 256) ∷ (n / 256 % 256) ∷ (n % 256) ∷ [] ≡ bigEndianBytes 4 n
 unfolding bigEndianBytes
 four-bytes n = rw (div-one n)
@@ -71,7 +78,5 @@ pub number-back : (x : ℤ) → SFits w32 x → signedOf 32 (bigEndian (bigEndia
 number-back x f =
     ap (signedOf 32) (number-of-bytes 4 (bitsOf 32 x) ∙ mod-eq-of-lt (bits-fit w32 x f)) ∙ bits-back w32 x f
 
-pub bytes-back : (bs : List ℕ) → length bs ≡ 4 → ((i : ℕ) → getD bs i 0 < 256) → bigEndianBytes 4 (bitsOf 32 (signedOf 32 (bigEndian bs))) ≡ bs
-bytes-back bs l h =
-    let small : bigEndian bs < 2 ^ 32 = rw l at (bytes-small bs h) in
-    ap (bigEndianBytes 4) (signed-back w32 (bigEndian bs) small) ∙ rw l at (bytes-of-number bs h)
+pub bytes-back : (n : ℕ) → n < 2 ^ 32 → bigEndianBytes 4 (bitsOf 32 (signedOf 32 n)) ≡ bigEndianBytes 4 n
+bytes-back n h = ap (bigEndianBytes 4) (signed-back w32 n h)

@@ -10,7 +10,7 @@ use borrow.Author.Tests.{lt-ltb, le-ltb, ltb-true, ltb-false}
 use lib.Dec.{ltb}
 use lib.ListN.{length, drop, length-drop}
 use lib.Pow.{pow-mono}
-use Rattle.codec.specs.Vlq.{Found, found, unreadable, continued, byte, numberOf, low64, below, vlqOf, placed, vlqAt, shortestOf, vlqBytes}
+use Rattle.codec.specs.Vlq.{Found, found, unreadable, continued, byte, numberOf, low64, below, vlqOf, placed, vlqAt, shortestOf, vlqBytes, Shortest}
 use Rattle.codec.specs.declared.vlq.Number.{Number}
 use Rattle.codec.specs.declared.vlq.Read.{Read}
 use Rattle.codec.specs.declared.vlq.Read.the-variants.{Value, Unreadable}
@@ -115,6 +115,9 @@ unfolding vlqBytes
 no-shorter width x n s e =
     let z : Sized (length s) (found x n) = subst (Sized (length s)) e (sized-vlq width s) in
     (short-form 10 x n (z .1) (z .0), z .2)
+
+pub shortest : (x : ℕ) → Shortest x
+shortest x = record { reads-back = λ width after w h. written-read width x after w h; least = λ width n s e. no-shorter width x n s e .0 }
 
 -- the shortest form of any number has at most ten bytes
 pub at-most-ten : (x : ℕ) → length (vlqBytes x) ≤ 10

@@ -1,10 +1,9 @@
+-- `codec::output::put` meets its contract. Assumes nothing.
 use mathlib.Core.Path.{sym}
 use lib.Seq.{set-out}
 use borrow.Author.Needs.{needs}
 use Rattle.codec.proofs.output.put.Statement.{statement}
 use Rattle.codec.proofs.output.put.Tie as tie
-use Rattle.codec.proofs.output.put.Reads as reads
-use Rattle.codec.proofs.output.put.Lts as lts
 
 returns : tie.Need-returns
 returns c = sym (set-out (c .before .args .out .now) (c .before .args .at) (c .before .args .b) (c .if1 .taken))

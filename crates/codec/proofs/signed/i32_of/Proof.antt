@@ -2,8 +2,8 @@
 use mathlib.Core.Path.{_∙_}
 use mir.Syntax.{w32}
 use mir.ValLaws.{toZ-ofZ, toZ-pos}
-use Rattle.codec.proofs.Laws.Signed.{toZ-is, unflip}
 use borrow.Author.Needs.{needs}
+use Rattle.codec.proofs.Laws.Signed.{toZ-is, unflip}
 use Rattle.codec.proofs.signed.i32_of.Statement.{statement}
 use Rattle.codec.proofs.signed.i32_of.Tie as tie
 

@@ -2,9 +2,9 @@
 use mathlib.Core.Path.{_∙_, ap}
 use mir.Syntax.{w32}
 use mir.ValLaws.{toZ-ofZ}
+use borrow.Author.Needs.{needs}
 use Rattle.codec.specs.Signed.{signedOf, wrapped}
 use Rattle.codec.proofs.Laws.Signed.{bits-add}
-use borrow.Author.Needs.{needs}
 use Rattle.codec.proofs.signed.wrapping_add_i32.Statement.{statement}
 use Rattle.codec.proofs.signed.wrapping_add_i32.Tie as tie
 

@@ -1,10 +1,11 @@
-use native.Mathlib.Omega.{arith}
-use mathlib.Core.Path.{sym, _∙_}
-use Rattle.codec.proofs.Laws.Vlq.{none, end, last, more, stops}
-use borrow.Author.Needs.{needs}
+-- `codec::vlq::read_from` meets its contract. Assumes nothing.
 use Prim.Native.Nat.{ℕ, _<_}
+use mathlib.Core.Path.{sym, _∙_}
+use native.Mathlib.Omega.{arith}
+use borrow.Author.Needs.{needs}
 use borrow.Fn.Kinds.{In}
 use borrow.Fn.PlainCycle.{Measures, is, falls, and}
+use Rattle.codec.proofs.Laws.Vlq.{none, end, last, more, stops}
 use Rattle.codec.proofs.vlq.read_from.Reads as read-from
 use Rattle.codec.proofs.vlq.read_from.Kinds as read-from-kinds
 use Rattle.codec.proofs.vlq.+read_from.Lts-read_from as read-from-lts
@@ -21,13 +22,11 @@ abbrev read-from-below : ℕ → In 1 read-from-kinds.ps
 read-from-below t =
     and 1 read-from-kinds.ps (falls 1 read-from-kinds.ps _<_ μ-read-from t) read-from.Pre
 
--- src/vlq.rt:57:9
 read-from-returns :
     (t : ℕ) →
     read-from-lts.Need-returns (read-from-below t, read-from.Post) (read-from-at t) read-from.Post
 read-from-returns t c = none _ _ _ (c .if1 .taken)
 
--- src/vlq.rt:60:9
 read-from-returns-2 :
     (t : ℕ) →
     read-from-lts.Need-returns-2
@@ -36,26 +35,22 @@ read-from-returns-2 :
     read-from.Post
 read-from-returns-2 t c = end _ _ _ (c .if2 .taken)
 
--- src/vlq.rt:62:13
 read-from-shared-slice-read-b : (t : ℕ) → read-from-lts.Need-shared-slice-read-b (
   read-from-below t,
   read-from.Post,
 ) (read-from-at t) read-from.Post
 read-from-shared-slice-read-b t c = search needs
 
--- src/vlq.rt:62:13
 read-from-cast-b :
     (t : ℕ) →
     read-from-lts.Need-cast-b (read-from-below t, read-from.Post) (read-from-at t) read-from.Post
 read-from-cast-b t c = omega (arith, c .shared-slice-known2 .given (c .before .before .before .before .args .at))
 
--- src/vlq.rt:66:19
 read-from-add-t10 :
     (t : ℕ) →
     read-from-lts.Need-add-t10 (read-from-below t, read-from.Post) (read-from-at t) read-from.Post
 read-from-add-t10 t c = search needs
 
--- src/vlq.rt:64:9
 read-from-returns-3 :
     (t : ℕ) →
     read-from-lts.Need-returns-3
@@ -64,47 +59,40 @@ read-from-returns-3 :
     read-from.Post
 read-from-returns-3 t c = last _ _ _ (c .before .before .if2 .left) (c .before .before .before .if1 .left) (c .if3 .taken)
 
--- src/vlq.rt:69:24
 read-from-add-read-from : (t : ℕ) → read-from-lts.Need-add-read-from (
   read-from-below t,
   read-from.Post,
 ) (read-from-at t) read-from.Post
 read-from-add-read-from t c = search needs
 
--- src/vlq.rt:69:32
 read-from-sub-read-from : (t : ℕ) → read-from-lts.Need-sub-read-from (
   read-from-below t,
   read-from.Post,
 ) (read-from-at t) read-from.Post
 read-from-sub-read-from t c = search needs
 
--- src/vlq.rt:69:11
 read-from-read-from-requires : (t : ℕ) → read-from-lts.Need-read-from-requires (
   read-from-below t,
   read-from.Post,
 ) (read-from-at t) read-from.Post
 read-from-read-from-requires t c κs = search needs
 
--- src/vlq.rt:70:21
 read-from-enum-known-n : (t : ℕ) → read-from-lts.Need-enum-known-n (
   read-from-below t,
   read-from.Post,
 ) (read-from-at t) read-from.Post
 read-from-enum-known-n t c = search needs
 
--- src/vlq.rt:71:20
 read-from-mul-t16 :
     (t : ℕ) →
     read-from-lts.Need-mul-t16 (read-from-below t, read-from.Post) (read-from-at t) read-from.Post
 read-from-mul-t16 t c = search needs
 
--- src/vlq.rt:71:20
 read-from-add-t18 :
     (t : ℕ) →
     read-from-lts.Need-add-t18 (read-from-below t, read-from.Post) (read-from-at t) read-from.Post
 read-from-add-t18 t c = search needs
 
--- src/vlq.rt:74:29
 read-from-enum-told :
     (t : ℕ) →
     read-from-lts.Need-enum-told
@@ -113,7 +101,6 @@ read-from-enum-told :
     read-from.Post
 read-from-enum-told t c = search needs
 
--- src/vlq.rt:53:1
 read-from-returns-4 :
     (t : ℕ) →
     read-from-lts.Need-returns-4
@@ -125,7 +112,6 @@ read-from-returns-4 t c =
     more _ _ _ (b .before .before .before .if2 .left) (b .before .before .before .before .if1 .left) (b .before .if3 .left) _
     (sym (c .before .before .n .given .1) ∙ b .read-from .ensures)
 
--- src/vlq.rt:53:1
 read-from-returns-5 :
     (t : ℕ) →
     read-from-lts.Need-returns-5

@@ -1,14 +1,13 @@
+-- `codec::vlq::put` meets its contract. Assumes nothing.
 use mathlib.Core.Path.{_≡_, sym, _∙_}
 use lib.ListN.{length}
 use lib.Seq.{sets}
+use borrow.Author.Needs.{needs}
 use Rattle.codec.specs.Vlq.{shortestOf, vlqBytes}
 use Rattle.codec.proofs.Laws.Output.{sets-out}
 use Rattle.codec.proofs.Laws.Vlq.{shortest-none, put-last, put-more}
-use borrow.Author.Needs.{needs}
 use Rattle.codec.proofs.vlq.put.Statement.{statement}
 use Rattle.codec.proofs.vlq.put.Tie as tie
-use Rattle.codec.proofs.vlq.put.Reads as reads
-use Rattle.codec.proofs.vlq.put.Lts as lts
 
 abbrev Inv-loop : tie.InvT-loop
 Inv-loop out₀ at x i₀ v₀ left₀ out i v left =
@@ -17,72 +16,56 @@ Inv-loop out₀ at x i₀ v₀ left₀ out i v left =
 abbrev μ-loop : tie.MeasureT-loop
 μ-loop out₀ at x i₀ v₀ left₀ out i v left = left
 
--- src/vlq.rt:115:5
 loop-holds : tie.Need-loop-holds Inv-loop μ-loop
 unfolding vlqBytes
 loop-holds c = search needs
 
--- src/vlq.rt:117:13
 same-length : tie.Need-same-length Inv-loop μ-loop
 same-length c = search needs
 
--- src/vlq.rt:117:13
 returns : tie.Need-returns Inv-loop μ-loop
 returns c =
     let l = c .before .before .loop in
     sym (sets-out (shortestOf (l .left) (l .v)) (l .out) (l .i) (c .if1 .taken)) ∙ l .inv .1
 
--- src/vlq.rt:120:22
 cast-out : tie.Need-cast-out Inv-loop μ-loop
 cast-out c = search needs
 
--- src/vlq.rt:120:13
 slice-write-out : tie.Need-slice-write-out Inv-loop μ-loop
 slice-write-out c = search needs
 
--- src/vlq.rt:121:13
 same-length-2 : tie.Need-same-length-2 Inv-loop μ-loop
 same-length-2 c = search needs
 
--- src/vlq.rt:121:13
 returns-2 : tie.Need-returns-2 Inv-loop μ-loop
 returns-2 c = sym (put-last _ _ (c .before .before .loop-test .taken) _ _ (c .if2 .taken)) ∙ c .before .before .before .loop .inv .1
 
--- src/vlq.rt:123:19
 add-out : tie.Need-add-out Inv-loop μ-loop
 add-out c = search needs
 
--- src/vlq.rt:123:18
 cast-out-2 : tie.Need-cast-out-2 Inv-loop μ-loop
 cast-out-2 c = search needs
 
--- src/vlq.rt:123:9
 slice-write-out-2 : tie.Need-slice-write-out-2 Inv-loop μ-loop
 slice-write-out-2 c = search needs
 
--- src/vlq.rt:124:9
 add-i : tie.Need-add-i Inv-loop μ-loop
 add-i c = search needs
 
--- src/vlq.rt:126:9
 sub-left : tie.Need-sub-left Inv-loop μ-loop
 sub-left c = search needs
 
--- src/vlq.rt:115:5
 loop-less : tie.Need-loop-less Inv-loop μ-loop
 loop-less c = search needs
 
--- src/vlq.rt:115:5
 loop-again : tie.Need-loop-again Inv-loop μ-loop
 loop-again c =
     let b = c .before .before in
     (search needs, sym (put-more _ _ (b .loop-test .taken) _ _ (c .if2 .left)) ∙ b .before .loop .inv .1)
 
--- src/vlq.rt:109:1
 same-length-3 : tie.Need-same-length-3 Inv-loop μ-loop
 same-length-3 c = search needs
 
--- src/vlq.rt:109:1
 returns-3 : tie.Need-returns-3 Inv-loop μ-loop
 returns-3 c = let l = c .before .loop in rw (shortest-none (l .left) (l .v) (c .loop-test .left)) at (l .inv .1)
 

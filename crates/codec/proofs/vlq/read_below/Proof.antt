@@ -1,37 +1,29 @@
+-- `codec::vlq::read_below` meets its contract. Assumes nothing.
 use mathlib.Core.Path.{sym, _∙_}
-use Rattle.codec.proofs.Laws.Vlq.{fits, over, unread}
 use borrow.Author.Needs.{needs}
+use Rattle.codec.proofs.Laws.Vlq.{fits, over, unread}
 use Rattle.codec.proofs.vlq.read_below.Statement.{statement}
 use Rattle.codec.proofs.vlq.read_below.Tie as tie
-use Rattle.codec.proofs.vlq.read_below.Reads as reads
-use Rattle.codec.proofs.vlq.read_below.Lts as lts
-use Rattle.codec.proofs.vlq.read_from.Reads as read-from-reads
 
--- src/vlq.rt:40:11
 read-from-requires : tie.Need-read-from-requires
 read-from-requires c κs = search needs
 
--- src/vlq.rt:41:21
 enum-known-n : tie.Need-enum-known-n
 enum-known-n c = search needs
 
--- src/vlq.rt:48:29
 enum-told : tie.Need-enum-told
 enum-told c = search needs
 
--- src/vlq.rt:37:1
 returns : tie.Need-returns
 returns c =
     let b = c .before .before .before in
     fits _ _ _ _ (sym (b .n .given .1) ∙ b .before .before .read-from .ensures) (c .if1 .taken)
 
--- src/vlq.rt:37:1
 returns-2 : tie.Need-returns-2
 returns-2 c =
     let b = c .before .before .before in
     over _ _ _ _ (sym (b .n .given .1) ∙ b .before .before .read-from .ensures) (c .if1 .left)
 
--- src/vlq.rt:37:1
 returns-3 : tie.Need-returns-3
 returns-3 c = unread _ _ _ (sym (c .enum-told .given .1) ∙ c .before .before .read-from .ensures)
 

@@ -1,14 +1,13 @@
+-- `codec::vlq::size` meets its contract. Assumes nothing.
 use Prim.Native.Nat.{_+_}
 use mathlib.Core.Path.{_≡_, ap}
-use lib.ListN.{length}
 use native.Mathlib.Omega.{arith}
+use lib.ListN.{length}
+use borrow.Author.Needs.{needs}
 use Rattle.codec.specs.Vlq.{shortestOf, vlqBytes}
 use Rattle.codec.proofs.Laws.Vlq.{shortest-none, length-last, length-more}
-use borrow.Author.Needs.{needs}
 use Rattle.codec.proofs.vlq.size.Statement.{statement}
 use Rattle.codec.proofs.vlq.size.Tie as tie
-use Rattle.codec.proofs.vlq.size.Reads as reads
-use Rattle.codec.proofs.vlq.size.Lts as lts
 
 abbrev Inv-loop : tie.InvT-loop
 Inv-loop x n₀ v₀ left₀ n v left = (n + length (shortestOf left v) ≡ length (vlqBytes x)) × (n + left ≡ 10)
@@ -16,36 +15,29 @@ Inv-loop x n₀ v₀ left₀ n v left = (n + length (shortestOf left v) ≡ leng
 abbrev μ-loop : tie.MeasureT-loop
 μ-loop x n₀ v₀ left₀ n v left = left
 
--- src/vlq.rt:85:5
 loop-holds : tie.Need-loop-holds Inv-loop μ-loop
 unfolding vlqBytes
 loop-holds c = search needs
 
--- src/vlq.rt:86:9
 add-n : tie.Need-add-n Inv-loop μ-loop
 add-n c = search needs
 
--- src/vlq.rt:88:13
 returns : tie.Need-returns Inv-loop μ-loop
 returns c =
     let l = c .before .before .loop in
     omega (arith, length-last (l .left) (l .v) (c .before .loop-test .taken) (c .if1 .taken))
 
--- src/vlq.rt:91:9
 sub-left : tie.Need-sub-left Inv-loop μ-loop
 sub-left c = search needs
 
--- src/vlq.rt:85:5
 loop-less : tie.Need-loop-less Inv-loop μ-loop
 loop-less c = search needs
 
--- src/vlq.rt:85:5
 loop-again : tie.Need-loop-again Inv-loop μ-loop
 loop-again c =
     let l = c .before .before .loop in
     omega (arith, length-more (l .left) (l .v) (c .before .loop-test .taken) (c .if1 .left))
 
--- src/vlq.rt:79:1
 returns-2 : tie.Need-returns-2 Inv-loop μ-loop
 returns-2 c = let l = c .before .loop in omega (arith, ap length (shortest-none (l .left) (l .v) (c .loop-test .left)))
 

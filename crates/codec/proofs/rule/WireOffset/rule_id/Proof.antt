@@ -2,9 +2,9 @@
 use mathlib.Core.Path.{_∙_, ap}
 use mir.Syntax.{w16}
 use mir.ValLaws.{toZ-ofZ}
+use borrow.Author.Needs.{needs}
 use Rattle.codec.specs.Rule.{ruleOf}
 use Rattle.codec.specs.Signed.{signedOf, wrapped, bitsOf, modulo}
-use borrow.Author.Needs.{needs}
 use Rattle.codec.proofs.rule.WireOffset.rule_id.Statement.{statement}
 use Rattle.codec.proofs.rule.WireOffset.rule_id.Tie as tie
 
