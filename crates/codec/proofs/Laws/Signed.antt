@@ -79,9 +79,6 @@ module _ (w : Width) (z : ℤ) (f : SFits w z) where
   pos-bits t = rw (← ofZ-is w z f, not-neg w z f t, toZ-pos w (mag z) (f .sfits))
 
 -- The needs of `if b < HALF { b as iN } else { !((!b) as iN) }`
-pub low-half : (w : Width) (n : ℕ) → n < 2 ^ hbits w → pos n ≡ signedOf (bits w) n
-low-half w n h = sym (toZ-pos w n h) ∙ toZ-is w n
-
 pub unflip : (w : Width) (n : ℕ) → Fits w n → toZ w ((2 ^ bits w - 1) - ((2 ^ bits w - 1) - n)) ≡ signedOf (bits w) n
 unflip w n f = rw (back (2 ^ bits w) n (f .fits)) (toZ-is w n)
   where

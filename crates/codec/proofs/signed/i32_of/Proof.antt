@@ -1,7 +1,5 @@
 -- `codec::signed::i32_of` meets its contract. Assumes nothing.
-use mathlib.Core.Path.{_∙_}
 use mir.Syntax.{w32}
-use mir.ValLaws.{toZ-ofZ, toZ-pos}
 use borrow.Author.Needs.{needs}
 use Rattle.codec.proofs.Laws.Signed.{toZ-is, unflip}
 use Rattle.codec.proofs.signed.i32_of.Statement.{statement}
