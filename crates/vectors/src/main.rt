@@ -47,35 +47,47 @@ fn count(call: u8, right: bool, runs: &mut [u64], differs: &mut [u64]) {
     differs[i] = one_more(differs[i]);
 }
 
-// Reads a file to its end, row by row. The turns are counted down from a number that no run uses up: nothing says that a file ends.
 fn run_file(fd: i32, runs: &mut [u64], differs: &mut [u64]) {
     let mut buf = io::large_buffer();
     let mut input = io::large_buffer();
     let mut answer = io::large_buffer();
     let mut out = io::large_buffer();
+    run_rows(
+        fd,
+        &mut buf,
+        &mut input,
+        &mut answer,
+        &mut out,
+        runs,
+        differs,
+    );
+}
+
+// Reads to the end, row by row. The turns are counted down from a number that no run uses up: nothing says that a file ends.
+fn run_rows(
+    fd: i32,
+    buf: &mut [u8],
+    input: &mut [u8],
+    answer: &mut [u8],
+    out: &mut [u8],
+    runs: &mut [u64],
+    differs: &mut [u64],
+) {
     let mut r = row::empty();
     let mut turns = u64::MAX;
     while 0 < turns {
         turns -= 1;
-        let got = libc::read(fd, &mut buf);
+        let got = libc::read(fd, buf);
         if got < 0 {
             io::write_all(1, b"not read\n");
             return;
         }
         if got == 0 {
-            run_byte(r, b'\n', &mut input, &mut answer, &mut out, runs, differs);
+            run_byte(r, b'\n', input, answer, out, runs, differs);
             return;
         }
-        let n = io::count(got, &buf);
-        r = run_part(
-            r,
-            &buf[..n],
-            &mut input,
-            &mut answer,
-            &mut out,
-            runs,
-            differs,
-        );
+        let n = io::count(got, buf);
+        r = run_part(r, &buf[..n], input, answer, out, runs, differs);
     }
 }
 
