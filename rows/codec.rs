@@ -37,14 +37,14 @@ fn vlq_write(mut x: u64) -> Vec<u8> {
 }
 
 // One reading at a position, at both widths.
-fn reads(s: &[u8], at: u8) {
+fn reads(s: &[u8], at: u32) {
     for (call, width) in [(1, 16), (2, 32)] {
-        let mut input = vec![at];
+        let mut input = at.to_be_bytes().to_vec();
         input.extend(s);
         let mut answer = vec![];
         if let Some((value, n)) = s.get(at as usize..).and_then(|rest| vlq_read(rest, width)) {
             answer.extend(value.to_be_bytes());
-            answer.push(at + n as u8);
+            answer.extend((at + n as u32).to_be_bytes());
         }
         row(call, &input, &answer);
     }
@@ -55,17 +55,17 @@ fn writes(x: u64, cells: &[u8]) {
     let mut input = x.to_be_bytes().to_vec();
     input.extend(cells);
     let mut after = cells.to_vec();
-    let mut answer = vec![21, 0];
+    let mut answer = vec![21, 0, 0, 0, 0];
     if w.len() <= cells.len() {
         after[..w.len()].copy_from_slice(&w);
-        answer = vec![0, w.len() as u8];
+        answer = vec![0, 0, 0, 0, w.len() as u8];
     }
     answer.extend(after);
     row(4, &input, &answer);
 }
 
 // Stores of bytes from a position on, as far as the cells reach.
-fn stored(cells: &[u8], at: u8, bytes: &[u8]) -> Vec<u8> {
+fn stored(cells: &[u8], at: u32, bytes: &[u8]) -> Vec<u8> {
     let mut after = cells.to_vec();
     for (cell, b) in after.iter_mut().skip(at as usize).zip(bytes) {
         *cell = *b;
@@ -90,9 +90,9 @@ fn from_list(line: &str) {
     if parts[0] == "vlq_write" {
         let x: u64 = parts[1].parse().unwrap();
         let w = bytes_of(answer[1]);
-        row(3, &x.to_be_bytes(), &[w.len() as u8]);
+        row(3, &x.to_be_bytes(), &(w.len() as u32).to_be_bytes());
         let input: Vec<u8> = x.to_be_bytes().into_iter().chain(w.iter().map(|_| 0)).collect();
-        let output: Vec<u8> = [0, w.len() as u8].into_iter().chain(w).collect();
+        let output: Vec<u8> = [0, 0, 0, 0, w.len() as u8].into_iter().chain(w).collect();
         row(4, &input, &output);
         return;
     }
@@ -102,10 +102,11 @@ fn from_list(line: &str) {
         "32" => 2,
         _ => return,
     };
-    let input: Vec<u8> = [0].into_iter().chain(bytes_of(bytes.trim_matches('-'))).collect();
+    let input: Vec<u8> = [0; 4].into_iter().chain(bytes_of(bytes.trim_matches('-'))).collect();
     let output: Vec<u8> = if answer[0] == "ok" {
         let value: u64 = answer[1].parse().unwrap();
-        value.to_be_bytes().into_iter().chain([answer[2].parse().unwrap()]).collect()
+        let next: u32 = answer[2].parse().unwrap();
+        value.to_be_bytes().into_iter().chain(next.to_be_bytes()).collect()
     } else {
         vec![]
     };
@@ -131,8 +132,16 @@ fn main() {
         let mut behind = vec![0x80, 0xff];
         behind.extend(&w);
         reads(&behind, 2);
-        reads(&w, w.len() as u8);
-        reads(&w, w.len() as u8 + 1);
+        for past in [w.len() as u32, w.len() as u32 + 1, 256, u32::MAX] {
+            reads(&w, past);
+        }
+    }
+    println!("# behind 300 bytes: a position of more than one byte");
+    for x in [0, 128, 65535, 65536, 4294967295, 4294967296] {
+        let mut s = vec![0x80; 300];
+        s.extend(vlq_write(x));
+        reads(&s, 300);
+        reads(&s, 44);
     }
     println!("# overlong forms: the edge with its last byte continued, and then zeros, up to eleven bytes");
     for x in [0u64, 1, 127, 128, 65535, 65536, 4294967295, 4294967296] {
@@ -159,13 +168,13 @@ fn main() {
     println!("# sizes and writing: a buffer one short, exactly full, longer; a store that the end cuts");
     for &x in &edges {
         let w = vlq_write(x);
-        row(3, &x.to_be_bytes(), &[w.len() as u8]);
+        row(3, &x.to_be_bytes(), &(w.len() as u32).to_be_bytes());
         for n in [0, w.len() - 1, w.len(), w.len() + 1, 12] {
             let cells: Vec<u8> = (0..n as u8).map(|i| 0xa0 + i).collect();
             writes(x, &cells);
-            for at in [0u8, 1, n as u8, n as u8 + 1] {
+            for at in [0, 1, n as u32, n as u32 + 1, 256, u32::MAX] {
                 let mut input = x.to_be_bytes().to_vec();
-                input.push(at);
+                input.extend(at.to_be_bytes());
                 input.extend(&cells);
                 row(16, &input, &stored(&cells, at, &w));
             }
@@ -201,13 +210,15 @@ fn main() {
     println!("# stores of a byte and of bytes, inside, at the end and past it");
     let cells = [0xa0u8, 0xa1, 0xa2, 0xa3];
     for n in 0..=4usize {
-        for at in 0..=5u8 {
-            let mut input = vec![at, 0x17];
+        for at in [0, 1, 2, 3, 4, 5, 256, u32::MAX] {
+            let mut input = at.to_be_bytes().to_vec();
+            input.push(0x17);
             input.extend(&cells[..n]);
             row(13, &input, &stored(&cells[..n], at, &[0x17]));
-            for k in 0..=3u8 {
+            for k in 0..=3u32 {
                 let bytes = &[0x31u8, 0x32, 0x33][..k as usize];
-                let mut input = vec![at, k];
+                let mut input = at.to_be_bytes().to_vec();
+                input.extend(k.to_be_bytes());
                 input.extend(bytes);
                 input.extend(&cells[..n]);
                 row(14, &input, &stored(&cells[..n], at, bytes));

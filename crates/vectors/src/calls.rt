@@ -2,7 +2,7 @@
 use crate::codec_calls;
 
 // The answer to a call's input, into out, and how many bytes it has; more than out holds where there is no such call or the input
-// is out of form.
+// is not as long as the call takes.
 pub fn answer_of(call: u8, s: &[u8], out: &mut [u8]) -> usize {
     match call {
         1 => codec_calls::read_u16(s, out),
@@ -19,7 +19,7 @@ pub fn answer_of(call: u8, s: &[u8], out: &mut [u8]) -> usize {
         12 => codec_calls::i32_to_be_bytes(s, out),
         13 => codec_calls::put(s, out),
         14 => codec_calls::put_bytes(s, out),
-        15 => codec_calls::refusals(out),
+        15 => codec_calls::refusals(s, out),
         16 => codec_calls::put_vlq(s, out),
         _ => codec_calls::NO_ANSWER,
     }

@@ -10,7 +10,7 @@ use codec::signed;
 use codec::vlq;
 use codec::vlq::Read;
 
-// The answer where the input is out of form: more bytes than any answer has, so that such a row differs.
+// The answer where the input is not as long as its call takes: more bytes than any answer has, so that such a row differs.
 pub const NO_ANSWER: usize = 0xffff_ffff;
 
 fn byte_at(s: &[u8], i: usize) -> u8 {
@@ -67,12 +67,19 @@ fn put_u64(out: &mut [u8], at: usize, n: u64) -> usize
     put_u32(out, k, (n % 0x1_0000_0000) as u32)
 }
 
-fn flag(b: bool) -> u8 {
-    if b { 1 } else { 0 }
+// A position or a count, of four bytes; what is larger than they hold is their largest number.
+fn put_count(out: &mut [u8], at: usize, n: usize) -> usize
+    requires { ⌜ at ≤ 900 ⌝ }
+    ensures { λ r. ⌜ r ≡ at + 4 ⌝ }
+{
+    if n < 0xffff_ffff {
+        return put_u32(out, at, n as u32);
+    }
+    put_u32(out, at, 0xffff_ffff)
 }
 
-fn low_byte(n: usize) -> u8 {
-    (n % 256) as u8
+fn flag(b: bool) -> u8 {
+    if b { 1 } else { 0 }
 }
 
 // Nothing where it is unreadable.
@@ -80,37 +87,38 @@ fn put_read(r: Read, out: &mut [u8]) -> usize {
     match r {
         Read::Value(n) => {
             let k = put_u64(out, 0, n.value);
-            output::put(out, k, low_byte(n.next));
-            k + 1
+            put_count(out, k, n.next)
         }
         Read::Unreadable => 0,
     }
 }
 
 pub fn read_u16(s: &[u8], out: &mut [u8]) -> usize {
-    if s.len() == 0 {
+    if s.len() < 4 {
         return NO_ANSWER;
     }
-    let at = byte_at(s, 0);
-    put_read(vlq::read_u16(&s[1..], at as usize), out)
+    let at = u32_at(s, 0);
+    put_read(vlq::read_u16(&s[4..], at as usize), out)
 }
 
 pub fn read_u32(s: &[u8], out: &mut [u8]) -> usize {
-    if s.len() == 0 {
+    if s.len() < 4 {
         return NO_ANSWER;
     }
-    let at = byte_at(s, 0);
-    put_read(vlq::read_u32(&s[1..], at as usize), out)
+    let at = u32_at(s, 0);
+    put_read(vlq::read_u32(&s[4..], at as usize), out)
 }
 
 pub fn size(s: &[u8], out: &mut [u8]) -> usize {
-    output::put(out, 0, low_byte(vlq::size(u64_at(s, 0))));
-    1
+    if s.len() != 8 {
+        return NO_ANSWER;
+    }
+    put_count(out, 0, vlq::size(u64_at(s, 0)))
 }
 
 fn put_wrote(out: &mut [u8], refusal: u8, n: usize, end: usize) -> usize {
     output::put(out, 0, refusal);
-    output::put(out, 1, low_byte(n));
+    put_count(out, 1, n);
     end
 }
 
@@ -118,103 +126,129 @@ pub fn write(s: &[u8], out: &mut [u8]) -> usize {
     if s.len() < 8 {
         return NO_ANSWER;
     }
-    let end = s.len() - 6;
+    let end = s.len() - 3;
     if out.len() < end {
         return NO_ANSWER;
     }
-    output::put_bytes(out, 2, &s[8..]);
-    match vlq::write(u64_at(s, 0), &mut out[2..end]) {
+    output::put_bytes(out, 5, &s[8..]);
+    match vlq::write(u64_at(s, 0), &mut out[5..end]) {
         Wrote::Bytes(n) => put_wrote(out, 0, n, end),
         Wrote::Refused(e) => put_wrote(out, e, 0, end),
     }
 }
 
 pub fn put_vlq(s: &[u8], out: &mut [u8]) -> usize {
-    if s.len() < 9 {
+    if s.len() < 12 {
         return NO_ANSWER;
     }
-    let end = s.len() - 9;
+    let end = s.len() - 12;
     if out.len() < end {
         return NO_ANSWER;
     }
-    output::put_bytes(out, 0, &s[9..]);
-    let at = byte_at(s, 8);
+    output::put_bytes(out, 0, &s[12..]);
+    let at = u32_at(s, 8);
     vlq::put(&mut out[0..end], at as usize, u64_at(s, 0));
     end
 }
 
-pub fn as_i8(s: &[u8], out: &mut [u8]) -> usize {
-    let x = signed::i8_of(byte_at(s, 0));
+// Whether it is below 0, and its bits: at three widths.
+fn put_i8(out: &mut [u8], x: i8) -> usize {
     output::put(out, 0, flag(x < 0));
     output::put(out, 1, signed::bits_i8(x));
     2
 }
 
-pub fn as_i16(s: &[u8], out: &mut [u8]) -> usize {
-    let x = signed::i16_of(u16_at(s, 0));
+fn put_i16(out: &mut [u8], x: i16) -> usize {
     output::put(out, 0, flag(x < 0));
     put_u16(out, 1, signed::bits_i16(x))
 }
 
-pub fn as_i32(s: &[u8], out: &mut [u8]) -> usize {
-    put_i32(out, signed::i32_of(u32_at(s, 0)))
-}
-
-// Whether it is below 0, and its bits.
 fn put_i32(out: &mut [u8], x: i32) -> usize {
     output::put(out, 0, flag(x < 0));
     put_u32(out, 1, signed::bits_i32(x))
 }
 
+pub fn as_i8(s: &[u8], out: &mut [u8]) -> usize {
+    if s.len() != 1 {
+        return NO_ANSWER;
+    }
+    put_i8(out, signed::i8_of(byte_at(s, 0)))
+}
+
+pub fn as_i16(s: &[u8], out: &mut [u8]) -> usize {
+    if s.len() != 2 {
+        return NO_ANSWER;
+    }
+    put_i16(out, signed::i16_of(u16_at(s, 0)))
+}
+
+pub fn as_i32(s: &[u8], out: &mut [u8]) -> usize {
+    if s.len() != 4 {
+        return NO_ANSWER;
+    }
+    put_i32(out, signed::i32_of(u32_at(s, 0)))
+}
+
 pub fn wrapping_add_i32(s: &[u8], out: &mut [u8]) -> usize {
+    if s.len() != 8 {
+        return NO_ANSWER;
+    }
     let a = signed::i32_of(u32_at(s, 0));
     let b = signed::i32_of(u32_at(s, 4));
     put_i32(out, signed::wrapping_add_i32(a, b))
 }
 
 pub fn wrapping_neg_i8(s: &[u8], out: &mut [u8]) -> usize {
-    let x = signed::wrapping_neg_i8(signed::i8_of(byte_at(s, 0)));
-    output::put(out, 0, flag(x < 0));
-    output::put(out, 1, signed::bits_i8(x));
-    2
+    if s.len() != 1 {
+        return NO_ANSWER;
+    }
+    put_i8(out, signed::wrapping_neg_i8(signed::i8_of(byte_at(s, 0))))
 }
 
 pub fn rule_id(s: &[u8], out: &mut [u8]) -> usize {
+    if s.len() != 2 {
+        return NO_ANSWER;
+    }
     let id = WireOffset(u16_at(s, 0)).rule_id();
-    output::put(out, 0, flag(id.0 < 0));
-    put_u16(out, 1, signed::bits_i16(id.0))
+    put_i16(out, id.0)
 }
 
 pub fn i32_from_be_bytes(s: &[u8], out: &mut [u8]) -> usize {
+    if s.len() != 4 {
+        return NO_ANSWER;
+    }
     let bytes = [byte_at(s, 0), byte_at(s, 1), byte_at(s, 2), byte_at(s, 3)];
     put_i32(out, big_endian::i32_from_be_bytes(bytes))
 }
 
 pub fn i32_to_be_bytes(s: &[u8], out: &mut [u8]) -> usize {
+    if s.len() != 4 {
+        return NO_ANSWER;
+    }
     let bytes = big_endian::i32_to_be_bytes(signed::i32_of(u32_at(s, 0)));
     output::put_bytes(out, 0, &bytes);
     4
 }
 
 pub fn put(s: &[u8], out: &mut [u8]) -> usize {
-    if s.len() < 2 {
+    if s.len() < 5 {
         return NO_ANSWER;
     }
-    let end = s.len() - 2;
+    let end = s.len() - 5;
     if out.len() < end {
         return NO_ANSWER;
     }
-    output::put_bytes(out, 0, &s[2..]);
-    let at = byte_at(s, 0);
-    output::put(&mut out[0..end], at as usize, byte_at(s, 1));
+    output::put_bytes(out, 0, &s[5..]);
+    let at = u32_at(s, 0);
+    output::put(&mut out[0..end], at as usize, byte_at(s, 4));
     end
 }
 
 pub fn put_bytes(s: &[u8], out: &mut [u8]) -> usize {
-    if s.len() < 2 {
+    if s.len() < 8 {
         return NO_ANSWER;
     }
-    let k = 2 + byte_at(s, 1) as usize;
+    let k = 8 + u32_at(s, 4) as usize;
     if s.len() < k {
         return NO_ANSWER;
     }
@@ -223,12 +257,15 @@ pub fn put_bytes(s: &[u8], out: &mut [u8]) -> usize {
         return NO_ANSWER;
     }
     output::put_bytes(out, 0, &s[k..]);
-    let at = byte_at(s, 0);
-    output::put_bytes(&mut out[0..end], at as usize, &s[2..k]);
+    let at = u32_at(s, 0);
+    output::put_bytes(&mut out[0..end], at as usize, &s[8..k]);
     end
 }
 
-pub fn refusals(out: &mut [u8]) -> usize {
+pub fn refusals(s: &[u8], out: &mut [u8]) -> usize {
+    if s.len() != 0 {
+        return NO_ANSWER;
+    }
     let numbers = refusal::refusals();
     output::put_bytes(out, 0, &numbers);
     26

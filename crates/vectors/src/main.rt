@@ -1,6 +1,6 @@
 // Runs recorded answers: for each row of the files named by its arguments, or of standard input where there are none, it makes the
-// call with the row's input and compares what comes back with the row's answer. It prints, for each call, how many rows were run and
-// how many of them differ. docs/VECTORS.md has the form of a row and the calls' numbers.
+// call with the row's input and compares what comes back with the row's answer. It prints, for each file and each call, how many rows
+// were run and how many of them differ. docs/VECTORS.md has the form of a row and the calls' numbers.
 mod calls;
 mod codec_calls;
 mod row;
@@ -47,7 +47,15 @@ fn count(call: u8, right: bool, runs: &mut [u64], differs: &mut [u64]) {
     differs[i] = one_more(differs[i]);
 }
 
-fn run_file(fd: i32, runs: &mut [u64], differs: &mut [u64]) {
+// Runs a file's rows, and prints what came of them.
+fn run_file(fd: i32) {
+    let mut runs = [0u64; 256];
+    let mut differs = [0u64; 256];
+    run_lent(fd, &mut runs, &mut differs);
+    print_all(&runs, &differs);
+}
+
+fn run_lent(fd: i32, runs: &mut [u64], differs: &mut [u64]) {
     let mut buf = io::large_buffer();
     let mut input = io::large_buffer();
     let mut answer = io::large_buffer();
@@ -151,35 +159,34 @@ fn print_all(runs: &[u64; 256], differs: &[u64; 256]) {
 }
 
 // The file that argument i names; says why where it cannot be opened.
-fn run_named(i: usize, runs: &mut [u64], differs: &mut [u64]) {
+fn run_named(i: usize) {
     let mut path = io::buffer();
     let n = os::arg(i, &mut path);
+    io::write_all(1, &path[..n]);
+    io::write_all(1, b"\n");
     let fd = os::open_read(&path[..n]);
     if fd < 0 {
         os::fail(&path[..n]);
         io::write_all(1, b"not opened\n");
         return;
     }
-    run_file(fd, runs, differs);
+    run_file(fd);
     libc::close(fd);
 }
 
-fn run_all(count: usize, runs: &mut [u64], differs: &mut [u64]) {
+fn run_all(count: usize) {
     let mut i: usize = 1;
     while i < count {
-        run_named(i, runs, differs);
+        run_named(i);
         i += 1;
     }
 }
 
 fn main() {
-    let mut runs = [0u64; 256];
-    let mut differs = [0u64; 256];
     let count = os::arg_count();
     if count < 2 {
-        run_file(libc::STDIN_FILENO, &mut runs, &mut differs);
+        run_file(libc::STDIN_FILENO);
     } else {
-        run_all(count, &mut runs, &mut differs);
+        run_all(count);
     }
-    print_all(&runs, &differs);
 }

@@ -11,7 +11,6 @@ use lib.ListN.{length, drop, getD, set, drop-of-length-le}
 use lib.Seq.{drop-cons, sets}
 use Rattle.codec.specs.Vlq.{Found, found, unreadable, continued, byte, numberOf, low64, below, placed, shortestOf}
 use Rattle.codec.specs.declared.vlq.Number.{Number}
-use Rattle.codec.specs.declared.vlq.Read.{Read}
 use Rattle.codec.specs.declared.vlq.Read.the-variants.{Value, Unreadable}
 
 no-bytes : (n : ℕ) → numberOf n [] ≡ unreadable

@@ -1,10 +1,10 @@
 -- VLQ there and back, at every width up to 64 bits: what was written is read back, no shorter form exists, and what is read lies inside.
 -- Assumes nothing.
-use mathlib.Core.Path.{_≡_, refl, sym, ap, _∙_, subst}
+use mathlib.Core.Path.{_≡_, refl, ap, subst}
 use mathlib.Core.Bool.{Bool, true, false, cond}
 use mathlib.Core.List.{List, [], _∷_, _++_}
 use Prim.Native.Nat.{ℕ, zero, suc, _+_, _-_, _*_, _%_, _/_, _^_, _<_, _≤_}
-use native.Mathlib.Nat.{pow-suc, pow-succ', lt-of-lt-of-le, mod-le, mod-eq-of-lt}
+use native.Mathlib.Nat.{pow-suc, lt-of-lt-of-le, mod-le, mod-eq-of-lt}
 use native.Mathlib.Omega.{arith}
 use borrow.Author.Tests.{lt-ltb, le-ltb, ltb-true, ltb-false}
 use lib.Dec.{ltb}
@@ -12,8 +12,7 @@ use lib.ListN.{length, drop, length-drop}
 use lib.Pow.{pow-mono}
 use Rattle.codec.specs.Vlq.{Found, found, unreadable, continued, byte, numberOf, low64, below, vlqOf, placed, vlqAt, shortestOf, vlqBytes, Shortest}
 use Rattle.codec.specs.declared.vlq.Number.{Number}
-use Rattle.codec.specs.declared.vlq.Read.{Read}
-use Rattle.codec.specs.declared.vlq.Read.the-variants.{Value, Unreadable}
+use Rattle.codec.specs.declared.vlq.Read.the-variants.{Value}
 
 -- a number of one byte, and a number of one byte more
 short : (n x : ℕ) (t : List ℕ) → x < 128 → numberOf (suc n) (shortestOf (suc n) x ++ t) ≡ found x (length (shortestOf (suc n) x))
