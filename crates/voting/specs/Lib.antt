@@ -1,0 +1,9 @@
+pub mod Common
+pub mod Settings
+pub mod Table
+pub mod Header
+pub mod Tally
+pub mod ForkCheck
+pub mod ForkPart
+pub mod Ordinary
+pub mod Boundary

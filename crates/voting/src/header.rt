@@ -1,0 +1,1 @@
+// Header votes. docs/RULES.md, "Header bytes".
