@@ -5,7 +5,6 @@ use mathlib.Core.Bool.{Bool, true, false, not, cond, _&&_}
 use mathlib.Core.List.{List}
 use lib.Dec.{eqb}
 use lib.IntN.{ℤ, pos}
-use Rattle.codec.specs.Refusal.{votingLengthZero, settingLarge}
 use Rattle.voting.specs.declared.settings.VotingConfig.{VotingConfig}
 use Rattle.voting.specs.declared.table.Value.{Value}
 use Rattle.voting.specs.declared.table.Value.the-variants.{Absent, Number}
@@ -16,8 +15,7 @@ use Rattle.voting.specs.declared.fork.RoundAt.{RoundAt}
 use Rattle.voting.specs.declared.fork.Forked.{Forked}
 use Rattle.voting.specs.declared.ordinary.Voted.{Voted}
 use Rattle.voting.specs.declared.boundary.Boundary.{Boundary}
-use Rattle.voting.specs.Common.{eqZ, first}
-use Rattle.voting.specs.Settings.{votingLength, settingsLarge}
+use Rattle.voting.specs.Common.{eqZ}
 use Rattle.voting.specs.Table.{lookup, update, withFork}
 use Rattle.voting.specs.Tally.{firstCount}
 use Rattle.voting.specs.ForkPart.{noRound, roundAt, forkAfter}
@@ -31,10 +29,6 @@ refuses t n = record { refusal = n; table = t; round = noRound }
 unfoldable pub gate : Table → ℕ → Boundary → Boundary
 gate t zero b = b
 gate t (suc n) b = refuses t (suc n)
-
--- 17, then 18
-unfoldable pub settingsRefusal : VotingConfig → ℕ
-settingsRefusal g = first (cond (eqb (votingLength g) 0) votingLengthZero 0) (cond (settingsLarge g) settingLarge 0)
 
 -- entry 9 becomes 30 in a table of version 4 that has none, unless the update that is activated here disables rule 409
 unfoldable pub isNumber : Value → ℤ → Bool
@@ -63,9 +57,8 @@ unfoldable pub afterRound : VotingConfig → ℕ → Table → List Entry → Bo
 afterRound g height t tally disables r =
     gate t (r .refusal) (afterFork g t tally disables (r .round) (forkAfter g height (r .round) (t .fork)))
 
--- the settings, height, old table and tally of the epoch before, whether the boundary header votes 120, and whether the proposed update
+-- the height, the old table, the tally of the epoch before, whether the boundary header votes 120, and whether the proposed update
 -- disables rule 409
 unfoldable pub boundaryOf : VotingConfig → ℕ → Table → List Entry → Bool → Bool → Boundary
 boundaryOf g height t tally vote disables =
-    gate t (settingsRefusal g)
-    (afterRound g height t tally disables (roundAt g height vote (firstCount (pos 120) tally) (t .fork)))
+    afterRound g height t tally disables (roundAt g height vote (firstCount (pos 120) tally) (t .fork))

@@ -5,7 +5,7 @@ use mathlib.Core.Bool.{Bool, true, false, not, cond, _&&_, _||_}
 use lib.Dec.{eqb}
 use lib.IntN.{ℤ, pos, _+ℤ_}
 use lib.Signed.{leZ}
-use Rattle.codec.specs.Refusal.{votesCollectedAbsent, blockVersionAbsent}
+use Rattle.codec.specs.Refusal.{votingLengthZero, settingLarge, votesCollectedAbsent, blockVersionAbsent}
 use Rattle.codec.specs.Signed.{wrapped}
 use Rattle.voting.specs.declared.settings.VotingConfig.{VotingConfig}
 use Rattle.voting.specs.declared.table.Value.{Value}
@@ -15,7 +15,7 @@ use Rattle.voting.specs.declared.fork.Round.{Round}
 use Rattle.voting.specs.declared.fork.RoundAt.{RoundAt}
 use Rattle.voting.specs.declared.fork.Forked.{Forked}
 use Rattle.voting.specs.Common.{eqZ}
-use Rattle.voting.specs.Settings.{votingLength, voteEpochs, activationEpochs, version2Height, softForkApproved}
+use Rattle.voting.specs.Settings.{votingLength, voteEpochs, activationEpochs, version2Height, softForkApproved, settingsLarge}
 use Rattle.voting.specs.Table.{forkEntries}
 use Rattle.voting.specs.ForkCheck.{epochsAfter}
 
@@ -25,6 +25,10 @@ noRound = record { opened = false; closed = false; rose = false; total = Absent 
 
 abbrev pub happens : Round → RoundAt
 happens r = record { refusal = 0; round = r }
+
+-- refused: nothing happens
+abbrev pub roundRefused : ℕ → RoundAt
+roundRefused n = record { refusal = n; round = noRound }
 
 -- the first 120 entry's count and entry 121, added in signed 32-bit arithmetic that wraps
 unfoldable pub forkTotal : ℕ → ℤ → ℤ
@@ -46,7 +50,7 @@ roundSteps late early voting rising vote approved total =
 -- the total is needed where one of the tests on the height holds: 19 where 121 is absent there
 unfoldable pub roundBy : VotingConfig → (late early voting rising vote : Bool) → ℕ → Value → RoundAt
 roundBy g late early voting rising vote votes Absent =
-    cond (late || early || voting || rising) (record { refusal = votesCollectedAbsent; round = noRound }) (happens noRound)
+    cond (late || early || voting || rising) (roundRefused votesCollectedAbsent) (happens noRound)
 roundBy g late early voting rising vote votes (Number collected) =
     happens
     (roundSteps late early voting rising vote (softForkApproved g (forkTotal votes collected)) (forkTotal votes collected))
@@ -63,17 +67,21 @@ roundFrom g height vote votes (Number start) collected =
     (eqZ (pos height) (epochsAfter g start (voteEpochs g + activationEpochs g)))
     vote votes collected
 
--- what happens to a round at a boundary: the height, whether the boundary header votes 120, the first 120 entry's count, the old entries
+-- What happens to a round at a boundary, by the settings, the height, whether the boundary header votes 120, the first 120 entry's count,
+-- and the old entries. 17 and 18 come first.
 unfoldable pub roundAt : VotingConfig → ℕ → Bool → ℕ → Fork → RoundAt
-roundAt g height vote votes old = roundFrom g height vote votes (old .start) (old .votes)
+roundAt g height vote votes old =
+    cond (eqb (votingLength g) 0) (roundRefused votingLengthZero)
+    (cond (settingsLarge g) (roundRefused settingLarge) (roundFrom g height vote votes (old .start) (old .votes)))
+
+-- a total that is stored, else another value
+unfoldable pub storedOr : Value → Value → Value
+storedOr (Number n) v = Number n
+storedOr Absent v = v
 
 -- 121: a stored total, 0 where a round opens, absent where one closes
 unfoldable pub votesAfter : Round → Value → Value
-votesAfter r old = totalOr (r .total)
-  where
-    totalOr : Value → Value
-    totalOr (Number n) = Number n
-    totalOr Absent = cond (r .opened) (Number (pos 0)) (cond (r .closed) Absent old)
+votesAfter r old = storedOr (r .total) (cond (r .opened) (Number (pos 0)) (cond (r .closed) Absent old))
 
 -- 122: the height where a round opens, wrapped to signed 32 bits; absent where one closes
 unfoldable pub startAfter : Round → ℕ → Value → Value

@@ -45,16 +45,16 @@ update t id v =
     (cond (ltb 9 id) t (record { ordinary = set (t .ordinary) (id - 1) (slot v); fork = t .fork })))))
 
 -- the table that a network begins with: entry 9 and the version differ
-abbrev pub beginning : Value → ℕ → Table
+unfoldable pub beginning : Value → ℤ → Table
 beginning nine version =
     record {
       ordinary = slot (Number (pos 1250000)) ∷ slot (Number (pos 360)) ∷ slot (Number (pos 524288)) ∷ slot (Number (pos 1000000)) ∷ slot (Number (pos 100)) ∷ slot (Number (pos 2000)) ∷ slot (Number (pos 100)) ∷ slot (Number (pos 100)) ∷ slot nine ∷ [];
-      fork = forkEntries Absent Absent (Number (pos version));
+      fork = forkEntries Absent Absent (Number version);
     }
 
 unfoldable pub defaultParameters : Network → Table
-defaultParameters Mainnet = beginning Absent 1
-defaultParameters Testnet = beginning (Number (pos 30)) 4
+defaultParameters Mainnet = beginning Absent (pos 1)
+defaultParameters Testnet = beginning (Number (pos 30)) (pos 4)
 
 -- 20 where there is no version, 16 where it is another one
 unfoldable pub versionRefusal : Value → ℕ → ℕ

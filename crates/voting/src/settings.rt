@@ -1,6 +1,6 @@
 // The settings of a network, and when a count of votes is approved. docs/RULES.md, "Table and settings".
 ghost use mathlib.Core.Path.{_≡_};
-ghost use Rattle.voting.specs.Settings.{mainnet, testnet, softForkApproved, changeApproved, settingsLarge};
+ghost use Rattle.voting.specs.Settings.{mainnet, testnet, forkLimit, softForkApproved, changeApproved, settingsLarge};
 
 pub enum Network {
     Mainnet,
@@ -13,4 +13,66 @@ pub struct VotingConfig {
     pub soft_fork_epochs: u32,
     pub activation_epochs: u32,
     pub version2_activation_height: u32,
+}
+
+impl VotingConfig {
+    pub fn mainnet() -> VotingConfig
+        ensures { λ r. ⌜ r ≡ mainnet ⌝ }
+    {
+        VotingConfig {
+            voting_length: 1024,
+            soft_fork_epochs: 32,
+            activation_epochs: 32,
+            version2_activation_height: 417792,
+        }
+    }
+
+    pub fn testnet() -> VotingConfig
+        ensures { λ r. ⌜ r ≡ testnet ⌝ }
+    {
+        VotingConfig {
+            voting_length: 128,
+            soft_fork_epochs: 32,
+            activation_epochs: 32,
+            version2_activation_height: 0,
+        }
+    }
+
+    // L·V·9/10, rounded down, without the product by 9, which does not always fit.
+    fn fork_limit(self) -> u64
+        ensures { λ r. ⌜ r ≡ forkLimit self ⌝ }
+    {
+        let p = (self.voting_length as u64) * (self.soft_fork_epochs as u64);
+        if p % 10 == 0 {
+            return p - p / 10;
+        }
+        p - p / 10 - 1
+    }
+
+    // A fork total that is high enough. A total that wrapped below 0 never is.
+    pub fn soft_fork_approved(self, votes: i32) -> bool
+        ensures { λ r. ⌜ r ≡ softForkApproved self votes ⌝ }
+    {
+        let limit = self.fork_limit();
+        if votes < 0 {
+            return false;
+        }
+        limit < votes as u64
+    }
+
+    // An ordinary count that is high enough.
+    pub fn change_approved(self, votes: u32) -> bool
+        ensures { λ r. ⌜ r ≡ changeApproved self votes ⌝ }
+    {
+        self.voting_length / 2 < votes
+    }
+
+    // A length or a number of epochs is too large to be taken.
+    pub fn settings_large(self) -> bool
+        ensures { λ r. ⌜ r ≡ settingsLarge self ⌝ }
+    {
+        (65535 < self.voting_length)
+            | (65535 < self.soft_fork_epochs)
+            | (65535 < self.activation_epochs)
+    }
 }

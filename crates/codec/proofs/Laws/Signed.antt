@@ -95,16 +95,32 @@ mixed M a b false e f g =
     let h : suc b ≤ a = ltb-false a (suc b) e in
     ap (λ (m : ℕ). m % M) (omega arith) ∙ add-mod-right (a - suc b) M
 
--- the bits of a sum, wrapped
+-- the bits of a natural number and a signed one, added and wrapped; and of two signed ones
+add-natural : (w : Width) (a : ℕ) (b : ℤ) → a < 2 ^ bits w → SFits w b → (a + ofZ w b) % 2 ^ bits w ≡ bitsOf (bits w) (pos a +ℤ b)
+unfolding bitsOf modulo
+add-natural w a (pos b) f g = refl
+add-natural w a (negsuc b) f g = mixed (2 ^ bits w) a b (ltb a (suc b)) refl f (omega (arith, pow-bits w))
+
 add-wraps : (w : Width) (a b : ℤ) → SFits w a → SFits w b → (ofZ w a + ofZ w b) % 2 ^ bits w ≡ bitsOf (bits w) (a +ℤ b)
 unfolding bitsOf modulo
-add-wraps w (pos a) (pos b) f g = refl
-add-wraps w (pos a) (negsuc b) f g = mixed (2 ^ bits w) a b (ltb a (suc b)) refl (omega (arith, pow-bits w)) (omega (arith, pow-bits w))
+add-wraps w (pos a) b f g = add-natural w a b (omega (arith, pow-bits w)) g
 add-wraps w (negsuc a) (pos b) f g =
     ap (λ (m : ℕ). m % 2 ^ bits w) (omega (arith, pow-bits w)) ∙ mixed (2 ^ bits w) b a (ltb b (suc a)) refl (omega (arith, pow-bits w)) (omega (arith, pow-bits w))
 add-wraps w (negsuc a) (negsuc b) f g =
     ap (λ (m : ℕ). m % 2 ^ bits w) (omega (arith, pow-bits w)) ∙ add-mod-right (2 ^ bits w - suc (suc (a + b))) (2 ^ bits w) ∙
     omega (arith, pow-bits w, mod-eq-of-lt {n = 2 ^ bits w - suc (suc (a + b))} {m = 2 ^ bits w} (omega (arith, pow-bits w)), mod-eq-of-lt {n = suc (a + b)} {m = 2 ^ bits w} (omega (arith, pow-bits w)))
+
+-- a natural number read as signed wraps to the same sum
+pub wrapped-natural : (w : Width) (a : ℕ) (b : ℤ) → a < 2 ^ bits w → SFits w b → wrapped (bits w) (signedOf (bits w) a +ℤ b) ≡ wrapped (bits w) (pos a +ℤ b)
+unfolding wrapped
+wrapped-natural w a b h g =
+    let f : Fits w a = record { fits = h } in
+    let e : bitsOf (bits w) (toZ w a +ℤ b) ≡ bitsOf (bits w) (pos a +ℤ b) = sym (add-wraps w (toZ w a) b (toZ-fits w a f) g) ∙ ap (λ (m : ℕ). (m + ofZ w b) % 2 ^ bits w) (ofZ-toZ w a f) ∙ add-natural w a b h g in
+    ap (signedOf (bits w)) (ap (λ (z : ℤ). bitsOf (bits w) (z +ℤ b)) (sym (toZ-is w a)) ∙ e)
+
+pub wrapped-pos : (w : Width) (a : ℕ) → a < 2 ^ bits w → signedOf (bits w) a ≡ wrapped (bits w) (pos a)
+unfolding wrapped bitsOf modulo
+wrapped-pos w a h = ap (signedOf (bits w)) (sym (mod-eq-of-lt h))
 
 -- the same from the bits of the summands, as a callee's `ensures` has them: a signed argument x stands there as `toZ w (ofZ w x)`
 pub bits-add : (w : Width) (a b : ℤ) → SFits w a → SFits w b → {m n : ℕ} → m ≡ bitsOf (bits w) (toZ w (ofZ w a)) → n ≡ bitsOf (bits w) (toZ w (ofZ w b)) → (m + n) % 2 ^ bits w ≡ bitsOf (bits w) (a +ℤ b)

@@ -1,0 +1,11 @@
+pub mod Tests
+pub mod Integers
+pub mod Header
+pub mod Tally
+pub mod Settings
+pub mod Table
+pub mod Step
+pub mod Votes
+pub mod Ordinary
+pub mod Fork
+pub mod Boundary

@@ -1,0 +1,157 @@
+-- What the ordinary votes do: when they are refused, what each moves, and what they leave alone.
+-- Assumes nothing.
+use mathlib.Core.Path.{_≡_, refl, sym, ap, ap₂, _∙_, subst}
+use mathlib.Core.Bool.{Bool, true, false, not, cond, _&&_, _||_}
+use mathlib.Core.Logic.{_⊎_, inl, inr}
+use mathlib.Core.List.{List, [], _∷_}
+use Prim.Native.Nat.{ℕ}
+use native.Mathlib.Omega.{arith}
+use lib.Dec.{eqb}
+use lib.IntN.{ℤ}
+use lib.ListN.{length}
+use borrow.Author.Tests.{eqb-true, eqb-false}
+use Rattle.codec.specs.Refusal.{unknownParameter}
+use Rattle.voting.specs.declared.settings.VotingConfig.{VotingConfig}
+use Rattle.voting.specs.declared.table.Value.{Value}
+use Rattle.voting.specs.declared.table.Value.the-variants.{Absent, Number}
+use Rattle.voting.specs.declared.table.Table.{Table}
+use Rattle.voting.specs.declared.tally.Entry.{Entry}
+use Rattle.voting.specs.declared.ordinary.Voted.{Voted}
+use Rattle.voting.specs.Table.{lookup, update}
+use Rattle.voting.specs.Ordinary.{parameter, moved, known, passes, stops, onward, counts, writes, approvedVote, voted, ordinaryVotes}
+use Rattle.voting.proofs.Laws.Table.{lookup-update-same, lookup-update-other, update-keeps, update-length}
+
+-- Whether the votes are refused
+unfoldable pub present : Value → Bool
+present Absent = false
+present (Number z) = true
+
+-- an entry that does not count, or whose parameter is known and there
+unfoldable pub sound : VotingConfig → Table → Entry → Bool
+sound g from e = not (counts g e) || (known (parameter (e .id)) && present (lookup from (parameter (e .id))))
+
+unfoldable pub every : {A : Type 0} → (A → Bool) → List A → Bool
+every p [] = true
+every p (x ∷ xs) = p x && every p xs
+
+voted-refusal : (g : VotingConfig) (from : Table) (e : Entry) (new : Table) → eqb (voted g from e new .refusal) 0 ≡ sound g from e
+unfolding voted approvedVote writes sound present
+voted-refusal g from e new = go (counts g e) (known (parameter (e .id))) (lookup from (parameter (e .id)))
+  where
+    go : (b k : Bool) (v : Value) → eqb (cond b (cond k (writes (e .id) new v) (stops new unknownParameter)) (passes new) .refusal) 0 ≡ not b || (k && present v)
+    go false k v = refl
+    go true false v = refl
+    go true true Absent = refl
+    go true true (Number z) = refl
+
+onward-refusal : (v : Voted) (k : Table → Voted) → eqb (onward v k .refusal) 0 ≡ eqb (v .refusal) 0 && eqb (k (v .table) .refusal) 0
+unfolding onward
+onward-refusal v k = go (eqb (v .refusal) 0) refl
+  where
+    go : (b : Bool) → eqb (v .refusal) 0 ≡ b → eqb (cond b (k (v .table)) v .refusal) 0 ≡ b && eqb (k (v .table) .refusal) 0
+    go true q = refl
+    go false q = q
+
+pub ordinary-refusal : (g : VotingConfig) (from : Table) (es : List Entry) (new : Table) → eqb ((ordinaryVotes g from es new) .refusal) 0 ≡ every (sound g from) es
+unfolding ordinaryVotes every
+ordinary-refusal g from [] new = refl
+ordinary-refusal g from (e ∷ es) new =
+    onward-refusal (voted g from e new) (ordinaryVotes g from es)
+    ∙ ap₂ _&&_ (voted-refusal g from e new) (ordinary-refusal g from es (voted g from e new .table))
+
+-- membership, and that no two entries are for one parameter
+abbrev pub In : Entry → List Entry → Type 0
+In e [] = ⊥
+In e (x ∷ xs) = (e ≡ x) ⊎ In e xs
+
+abbrev pub Apart : List Entry → Type 0
+Apart [] = Unit {0}
+Apart (x ∷ xs) = ((e : Entry) → In e xs → parameter (e .id) ≡ parameter (x .id) → ⊥) × Apart xs
+
+-- What every write of an approved vote keeps, the votes keep
+module _ (P : Table → Type 0) (g : VotingConfig) (from : Table) where
+  abbrev Kept : Entry → Type 0
+  Kept e = counts g e ≡ true → known (parameter (e .id)) ≡ true → (t : Table) (y : Value) → P t → P (update t (parameter (e .id)) y)
+
+  voted-carries : (e : Entry) (new : Table) → Kept e → P new → P (voted g from e new .table)
+  unfolding voted approvedVote writes
+  voted-carries e new h p = go (counts g e) refl (known (parameter (e .id))) refl (lookup from (parameter (e .id)))
+    where
+      go : (b : Bool) → counts g e ≡ b → (k : Bool) → known (parameter (e .id)) ≡ k → (v : Value) → P (cond b (cond k (writes (e .id) new v) (stops new unknownParameter)) (passes new) .table)
+      go false c k q v = p
+      go true c false q v = p
+      go true c true q Absent = p
+      go true c true q (Number z) = h c q new (Number (moved (e .id) z)) p
+
+  onward-carries : (v : Voted) (k : Table → Voted) → P (v .table) → P (k (v .table) .table) → P (onward v k .table)
+  unfolding onward
+  onward-carries v k p q = go (eqb (v .refusal) 0)
+    where
+      go : (b : Bool) → P (cond b (k (v .table)) v .table)
+      go true = q
+      go false = p
+
+  pub votes-carry : (es : List Entry) (new : Table) → ((e : Entry) → In e es → Kept e) → P new → P ((ordinaryVotes g from es new) .table)
+  unfolding ordinaryVotes
+  votes-carry [] new h p = p
+  votes-carry (e ∷ es) new h p =
+      let q = voted-carries e new (h e (inl refl)) p in
+      onward-carries (voted g from e new) (ordinaryVotes g from es) q (votes-carry es (voted g from e new .table) (λ x i. h x (inr i)) q)
+
+pub ordinary-keeps : (g : VotingConfig) (from : Table) (es : List Entry) (new : Table) → (ordinaryVotes g from es new) .table .fork ≡ new .fork
+ordinary-keeps g from es new =
+    votes-carry (λ t. t .fork ≡ new .fork) g from es new (λ e i c k t y q. update-keeps t (parameter (e .id)) y k ∙ q) refl
+
+pub ordinary-length : (g : VotingConfig) (from : Table) (es : List Entry) (new : Table) → length ((ordinaryVotes g from es new) .table .ordinary) ≡ length (new .ordinary)
+ordinary-length g from es new =
+    votes-carry (λ t. length (t .ordinary) ≡ length (new .ordinary)) g from es new (λ e i c k t y q. update-length t (parameter (e .id)) y ∙ q) refl
+
+pub ordinary-stays : (g : VotingConfig) (from new : Table) (es : List Entry) (m : ℕ) → ((e : Entry) → In e es → counts g e ≡ true → parameter (e .id) ≡ m → ⊥) → lookup ((ordinaryVotes g from es new) .table) m ≡ lookup new m
+ordinary-stays g from new es m h =
+    votes-carry (λ t. lookup t m ≡ lookup new m) g from es new (λ e i c k t y q. lookup-update-other t (parameter (e .id)) m y (λ p. h e i c (sym p)) ∙ q) refl
+
+-- An entry that counts moves its parameter by one step from its old value
+onward-zero : (v : Voted) (k : Table → Voted) → onward v k .refusal ≡ 0 → (v .refusal ≡ 0) × (onward v k ≡ k (v .table))
+unfolding onward
+onward-zero v k = go (eqb (v .refusal) 0) refl
+  where
+    go : (b : Bool) → eqb (v .refusal) 0 ≡ b → cond b (k (v .table)) v .refusal ≡ 0 → (v .refusal ≡ 0) × (cond b (k (v .table)) v ≡ k (v .table))
+    go true q z = (eqb-true (v .refusal) 0 q, refl)
+    go false q z = absurd (eqb-false (v .refusal) 0 q z)
+
+voted-moves : (g : VotingConfig) (from new : Table) (e : Entry) (z : ℤ) → counts g e ≡ true → lookup from (parameter (e .id)) ≡ Number z → voted g from e new .refusal ≡ 0
+    → (known (parameter (e .id)) ≡ true) × (voted g from e new .table ≡ update new (parameter (e .id)) (Number (moved (e .id) z)))
+unfolding voted approvedVote writes
+voted-moves g from new e z c q = rw (c, q) (go (known (parameter (e .id))))
+  where
+    go : (k : Bool) → cond k (writes (e .id) new (Number z)) (stops new unknownParameter) .refusal ≡ 0
+        → (k ≡ true) × (cond k (writes (e .id) new (Number z)) (stops new unknownParameter) .table ≡ update new (parameter (e .id)) (Number (moved (e .id) z)))
+    go true h = (refl, refl)
+    go false h = absurd (omega arith)
+
+head-moves : (g : VotingConfig) (from new : Table) (es : List Entry) (e : Entry) (z : ℤ) → length (new .ordinary) ≡ 9 → Apart (e ∷ es) → counts g e ≡ true
+    → (ordinaryVotes g from (e ∷ es) new) .refusal ≡ 0 → lookup from (parameter (e .id)) ≡ Number z
+    → lookup ((ordinaryVotes g from (e ∷ es) new) .table) (parameter (e .id)) ≡ Number (moved (e .id) z)
+unfolding ordinaryVotes
+head-moves g from new es e z l a c r q =
+    let m = parameter (e .id) in
+    let o = onward-zero (voted g from e new) (ordinaryVotes g from es) r in
+    let w = voted-moves g from new e z c q (o .0) in
+    ap (λ (v : Voted). lookup (v .table) m) (o .1)
+    ∙ ordinary-stays g from (voted g from e new .table) es m (λ x i _ p. a .0 x i p)
+    ∙ ap (λ (t : Table). lookup t m) (w .1)
+    ∙ lookup-update-same new m (Number (moved (e .id) z)) (w .0) l
+
+pub ordinary-moves : (g : VotingConfig) (from new : Table) (es : List Entry) (e : Entry) (z : ℤ) → length (new .ordinary) ≡ 9 → Apart es → In e es → counts g e ≡ true
+    → (ordinaryVotes g from es new) .refusal ≡ 0 → lookup from (parameter (e .id)) ≡ Number z
+    → lookup ((ordinaryVotes g from es new) .table) (parameter (e .id)) ≡ Number (moved (e .id) z)
+unfolding ordinaryVotes
+ordinary-moves g from new [] e z l a i c r q = absurd i
+ordinary-moves g from new (x ∷ es) e z l a (inl h) c r q =
+    subst (λ (y : Entry). Apart (y ∷ es) → (ordinaryVotes g from (y ∷ es) new) .refusal ≡ 0 → lookup ((ordinaryVotes g from (y ∷ es) new) .table) (parameter (e .id)) ≡ Number (moved (e .id) z))
+    h (λ b s. head-moves g from new es e z l b c s q) a r
+ordinary-moves g from new (x ∷ es) e z l a (inr i) c r q =
+    let n = voted g from x new .table in
+    let o = onward-zero (voted g from x new) (ordinaryVotes g from es) r in
+    ap (λ (v : Voted). lookup (v .table) (parameter (e .id))) (o .1)
+    ∙ ordinary-moves g from n es e z (voted-carries (λ t. length (t .ordinary) ≡ 9) g from x new (λ c k t y h. update-length t (parameter (x .id)) y ∙ h) l) (a .1) i c (ap (λ (v : Voted). v .refusal) (sym (o .1)) ∙ r) q

@@ -1,0 +1,70 @@
+-- `voting::fork::open_round` meets its contract. Assumes nothing.
+use mathlib.Core.Path.{_≡_, refl, sym, ap, _∙_}
+use native.Mathlib.Omega.{arith}
+use lib.IntN.{ℤ, pos}
+use mir.Syntax.{w32}
+use mir.Val.{SFits, toZ, ofZ}
+use mir.ValLaws.{toZ-ofZ}
+use Rattle.voting.proofs.Laws.Settings.{moderate}
+use Rattle.voting.proofs.Laws.Fork.{plain, open-by}
+use borrow.Author.Needs.{needs}
+use Rattle.voting.proofs.fork.open_round.Statement.{statement}
+use Rattle.voting.proofs.fork.open_round.Tie as tie
+
+add-h : tie.Need-add-h
+add-h c = search needs
+
+add-epochs-after : tie.Need-add-epochs-after
+add-epochs-after c = let m = moderate (c .args .config) (c .pre) in omega (arith, m .votes-fit, m .activation-fits)
+
+add-epochs-after-2 : tie.Need-add-epochs-after-2
+add-epochs-after-2 c = let m = moderate (c .args .config) (c .pre) in omega (arith, m .votes-fit, m .activation-fits)
+
+epochs-after-requires : tie.Need-epochs-after-requires
+epochs-after-requires c κs = search needs
+
+add-epochs-after-3 : tie.Need-add-epochs-after-3
+add-epochs-after-3 c = let m = moderate (c .before .args .config) (c .before .pre) in omega (arith, m .votes-fit, m .activation-fits)
+
+epochs-after-requires-2 : tie.Need-epochs-after-requires-2
+epochs-after-requires-2 c κs = search needs
+
+epochs-after-requires-3 : tie.Need-epochs-after-requires-3
+epochs-after-requires-3 c κs = search needs
+
+add-epochs-after-4 : tie.Need-add-epochs-after-4
+add-epochs-after-4 c = let m = moderate (c .before .before .before .args .config) (c .before .before .before .pre) in omega (arith, m .votes-fit, m .activation-fits)
+
+epochs-after-requires-4 : tie.Need-epochs-after-requires-4
+epochs-after-requires-4 c κs = search needs
+
+round-by-requires : tie.Need-round-by-requires
+round-by-requires c κs = search needs
+
+returns : tie.Need-returns
+returns c =
+    let b = c .before .before .before .before .before in
+    let a = b .args in
+    let f = b .fits .start in
+    c .round-by .ensures
+    ∙ open-by (a .config) (a .height) (a .vote) (a .votes) (a .start) (a .collected) _ _ _ _
+    (plain _ _ _ _ f (c .before .before .before .before .epochs-after .ensures))
+    (plain _ _ _ _ f (c .before .before .before .epochs-after2 .ensures))
+    (plain _ _ _ _ f (c .before .before .epochs-after3 .ensures))
+    (plain _ _ _ _ f (c .before .epochs-after4 .ensures))
+
+pub open-round-spec : {M : Type 1} → statement M
+open-round-spec =
+    tie.close
+    (tie.spec
+    add-h
+    add-epochs-after
+    add-epochs-after-2
+    epochs-after-requires
+    add-epochs-after-3
+    epochs-after-requires-2
+    epochs-after-requires-3
+    add-epochs-after-4
+    epochs-after-requires-4
+    round-by-requires
+    returns)
