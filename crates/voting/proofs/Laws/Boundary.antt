@@ -26,9 +26,10 @@ use Rattle.voting.specs.Tally.{firstCount}
 use Rattle.voting.specs.ForkPart.{roundAt, forkAfter}
 use Rattle.voting.specs.Ordinary.{known, ordinaryVotes}
 use Rattle.voting.specs.Boundary.{refuses, gate, isNumber, isAbsent, withSubblocks, afterVotes, afterFork, afterRound, boundaryOf}
-use Rattle.voting.proofs.Laws.Integers.{same-number}
+use Rattle.voting.proofs.Laws.Integers.{is-number}
 use Rattle.voting.proofs.Laws.Tests.{by-test}
 use Rattle.voting.proofs.Laws.Table.{update-keeps}
+use Rattle.voting.proofs.Laws.Ordinary.{ordinary-keeps}
 
 -- ---- the version of a block
 
@@ -39,11 +40,11 @@ module _ (t : Table) (v : ℕ) where
 
   pub version-same : (z : ℤ) → t .fork .version ≡ Number z → SFits w32 z → v < 256 → ofZ w32 z ≡ v → 0 ≡ checkBlockVersion t v
   unfolding checkBlockVersion versionRefusal lookup
-  version-same z e f l q = rw (e, ← same-number w32 z (pos v) f (record { sfits = omega arith }), eq-eqb (ofZ w32 z) v q)
+  version-same z e f l q = rw (e, is-number w32 z v f (omega arith), eq-eqb (ofZ w32 z) v q)
 
   pub version-other : (z : ℤ) → t .fork .version ≡ Number z → SFits w32 z → v < 256 → (ofZ w32 z ≡ v → ⊥) → 16 ≡ checkBlockVersion t v
   unfolding checkBlockVersion versionRefusal lookup
-  version-other z e f l q = rw (e, ← same-number w32 z (pos v) f (record { sfits = omega arith }), ne-eqb (ofZ w32 z) v q)
+  version-other z e f l q = rw (e, is-number w32 z v f (omega arith), ne-eqb (ofZ w32 z) v q)
 
 -- ---- entry 9
 
@@ -112,3 +113,35 @@ pub subblocks-keeps : (disabled : Bool) (t : Table) → withSubblocks disabled t
 unfolding withSubblocks
 subblocks-keeps disabled t =
     by-test (isNumber (lookup t 123) (pos 4) && isAbsent (lookup t 9) && not disabled) (λ e. rw e (update-keeps t 9 (Number (pos 30)) nine-known)) (λ e. rw e)
+
+-- ---- a boundary that is not refused, taken apart
+
+gate-zero : (t : Table) (n : ℕ) (b : Boundary) → gate t n b .refusal ≡ 0 → (n ≡ 0) × (gate t n b ≡ b)
+unfolding gate
+gate-zero t zero b e = (refl, refl)
+gate-zero t (suc n) b e = absurd (omega arith)
+
+-- neither the round nor the fork entries were refused, and the new table has these entries
+pub record Passed (g : VotingConfig) (height : ℕ) (t : Table) (tally : List Entry) (vote disables : Bool) : Type 0 where
+  pub round-passes : roundAt g height vote (firstCount (pos 120) tally) (t .fork) .refusal ≡ 0
+  pub fork-passes : forkAfter g height (roundAt g height vote (firstCount (pos 120) tally) (t .fork) .round) (t .fork) .refusal ≡ 0
+  pub new-fork : boundaryOf g height t tally vote disables .table .fork ≡ forkAfter g height (roundAt g height vote (firstCount (pos 120) tally) (t .fork) .round) (t .fork) .fork
+  pub same-round : boundaryOf g height t tally vote disables .round ≡ roundAt g height vote (firstCount (pos 120) tally) (t .fork) .round
+
+pub passed : (g : VotingConfig) (height : ℕ) (t : Table) (tally : List Entry) (vote disables : Bool) → boundaryOf g height t tally vote disables .refusal ≡ 0 → Passed g height t tally vote disables
+unfolding boundaryOf afterRound afterFork afterVotes
+passed g height t tally vote disables e =
+    let r = roundAt g height vote (firstCount (pos 120) tally) (t .fork) in
+    let f = forkAfter g height (r .round) (t .fork) in
+    let from = withFork t (f .fork) in
+    let v = ordinaryVotes g from tally from in
+    let last : Boundary = record { refusal = 0; table = withSubblocks (r .round .rose && disables) (v .table); round = r .round } in
+    let a = gate-zero t (r .refusal) (gate t (f .refusal) (gate t (v .refusal) last)) e in
+    let b = gate-zero t (f .refusal) (gate t (v .refusal) last) (ap (λ (x : Boundary). x .refusal) (sym (a .1)) ∙ e) in
+    let c = gate-zero t (v .refusal) last (ap (λ (x : Boundary). x .refusal) (sym (a .1 ∙ b .1)) ∙ e) in
+    record {
+      round-passes = a .0;
+      fork-passes = b .0;
+      new-fork = ap (λ (x : Boundary). x .table .fork) (a .1 ∙ b .1 ∙ c .1) ∙ subblocks-keeps (r .round .rose && disables) (v .table) ∙ ordinary-keeps g from tally from;
+      same-round = ap (λ (x : Boundary). x .round) (a .1 ∙ b .1 ∙ c .1);
+    }

@@ -14,6 +14,8 @@ use Rattle.codec.specs.Refusal.{tooManyVotes, repeatedVote, contradictoryVote}
 use Rattle.codec.specs.Signed.{modulo, bitsOf, signedOf, wrapped}
 use Rattle.codec.proofs.Laws.Signed.{signed-back}
 use Rattle.voting.specs.Common.{eqZ, count, first}
+use Rattle.voting.proofs.Laws.Tests.{eqb-comm}
+use Rattle.voting.proofs.Laws.Integers.{eqZ-same, eqZ-true, ne-eqZ, eqZ-comm}
 use Rattle.voting.specs.Header.{votesIn, negation, ordinaryVote, fault, faultIn, checkVotes, checkHeaderVotes, votesFor}
 
 -- a statement of every element of a list
@@ -24,40 +26,6 @@ Each P (x ∷ xs) = P x × Each P xs
 pub each : {A : Type 0} (P Q : A → Type 0) → ((x : A) → P x → Q x) → (xs : List A) → Each P xs → Each Q xs
 each P Q f [] h = h
 each P Q f (x ∷ xs) h = (f x (h .0), each P Q f xs (h .1))
-
--- the test of two integers
-pub eqZ-same : (z : ℤ) → eqZ z z ≡ true
-unfolding eqZ
-eqZ-same (pos n) = eq-eqb n n refl
-eqZ-same (negsuc n) = eq-eqb n n refl
-
-pub eqZ-true : (x y : ℤ) → eqZ x y ≡ true → x ≡ y
-unfolding eqZ
-eqZ-true (pos a) (pos b) e = ap pos (eqb-true a b e)
-eqZ-true (pos a) (negsuc b) e = absurd (subst T (sym e) tt)
-eqZ-true (negsuc a) (pos b) e = absurd (subst T (sym e) tt)
-eqZ-true (negsuc a) (negsuc b) e = ap negsuc (eqb-true a b e)
-
-pub ne-eqZ : (x y : ℤ) → (x ≡ y → ⊥) → eqZ x y ≡ false
-ne-eqZ x y h = go (eqZ x y) refl
-  where
-    go : (t : Bool) → eqZ x y ≡ t → t ≡ false
-    go true e = absurd (h (eqZ-true x y e))
-    go false e = refl
-
-eqb-comm : (a b : ℕ) → eqb a b ≡ eqb b a
-eqb-comm a b = go (eqb b a) refl
-  where
-    go : (t : Bool) → eqb b a ≡ t → eqb a b ≡ t
-    go true e = eq-eqb a b (sym (eqb-true b a e))
-    go false e = ne-eqb a b (λ q. eqb-false b a e (sym q))
-
-eqZ-comm : (x y : ℤ) → eqZ x y ≡ eqZ y x
-unfolding eqZ
-eqZ-comm (pos a) (pos b) = eqb-comm a b
-eqZ-comm (pos a) (negsuc b) = refl
-eqZ-comm (negsuc a) (pos b) = refl
-eqZ-comm (negsuc a) (negsuc b) = eqb-comm a b
 
 -- how often something is among three
 pub count-three : {A : Type 0} (p : A → Bool) (a b c : A) {x y z : ℕ} → x ≡ cond (p a) 1 0 → y ≡ cond (p b) 1 0 → z ≡ cond (p c) 1 0 → x + y + z ≡ count p (a ∷ b ∷ c ∷ [])

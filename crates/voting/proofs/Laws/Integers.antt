@@ -1,6 +1,6 @@
 -- Signed numbers as the code tests them, and heights shifted by 2^31, which are never negative.
 -- Assumes nothing.
-use mathlib.Core.Path.{_≡_, refl, sym, ap, _∙_}
+use mathlib.Core.Path.{_≡_, refl, sym, ap, _∙_, subst}
 use mathlib.Core.Bool.{Bool, true, false, cond}
 use Prim.Native.Nat.{ℕ, zero, suc, _+_, _*_, _-_, _%_, _≤_, _<_, _^_}
 use native.Mathlib.Nat.{mod-eq-of-lt}
@@ -15,28 +15,34 @@ use borrow.Author.Tests.{ltb-true, ltb-false, leb-true, leb-false, eqb-true, eqb
 use Rattle.codec.specs.Signed.{bitsOf}
 use Rattle.codec.proofs.Laws.Signed.{ofZ-is}
 use Rattle.voting.specs.Common.{eqZ}
+use Rattle.voting.proofs.Laws.Tests.{eqb-iff, leb-iff, ltb-iff, eqb-comm}
 
--- two tests that say the same
-pub eqb-iff : (a b c d : ℕ) → (a ≡ b → c ≡ d) → (c ≡ d → a ≡ b) → eqb a b ≡ eqb c d
-eqb-iff a b c d f g = go (eqb a b) refl
+-- the test of two integers
+pub eqZ-same : (z : ℤ) → eqZ z z ≡ true
+unfolding eqZ
+eqZ-same (pos n) = eq-eqb n n refl
+eqZ-same (negsuc n) = eq-eqb n n refl
+
+pub eqZ-true : (x y : ℤ) → eqZ x y ≡ true → x ≡ y
+unfolding eqZ
+eqZ-true (pos a) (pos b) e = ap pos (eqb-true a b e)
+eqZ-true (pos a) (negsuc b) e = absurd (subst T (sym e) tt)
+eqZ-true (negsuc a) (pos b) e = absurd (subst T (sym e) tt)
+eqZ-true (negsuc a) (negsuc b) e = ap negsuc (eqb-true a b e)
+
+pub ne-eqZ : (x y : ℤ) → (x ≡ y → ⊥) → eqZ x y ≡ false
+ne-eqZ x y h = go (eqZ x y) refl
   where
-    go : (t : Bool) → eqb a b ≡ t → t ≡ eqb c d
-    go true e = sym (eq-eqb c d (f (eqb-true a b e)))
-    go false e = sym (ne-eqb c d (λ q. eqb-false a b e (g q)))
+    go : (t : Bool) → eqZ x y ≡ t → t ≡ false
+    go true e = absurd (h (eqZ-true x y e))
+    go false e = refl
 
-pub leb-iff : (a b c d : ℕ) → (a ≤ b → c ≤ d) → (c ≤ d → a ≤ b) → leb a b ≡ leb c d
-leb-iff a b c d f g = go (leb a b) refl
-  where
-    go : (t : Bool) → leb a b ≡ t → t ≡ leb c d
-    go true e = sym (le-leb c d (f (leb-true a b e)))
-    go false e = go′ (leb c d) refl
-      where
-        go′ : (u : Bool) → leb c d ≡ u → false ≡ u
-        go′ true q = let k : a ≤ b = g (leb-true c d q) in absurd (omega (arith, leb-false a b e))
-        go′ false q = refl
-
-pub ltb-iff : (a b c d : ℕ) → (a < b → c < d) → (c < d → a < b) → ltb a b ≡ ltb c d
-ltb-iff a b c d f g = leb-iff (suc a) b (suc c) d f g
+pub eqZ-comm : (x y : ℤ) → eqZ x y ≡ eqZ y x
+unfolding eqZ
+eqZ-comm (pos a) (pos b) = eqb-comm a b
+eqZ-comm (pos a) (negsuc b) = refl
+eqZ-comm (negsuc a) (pos b) = refl
+eqZ-comm (negsuc a) (negsuc b) = eqb-comm a b
 
 -- equality of bits is equality
 pub same-number : (w : Width) (x y : ℤ) → SFits w x → SFits w y → eqb (ofZ w x) (ofZ w y) ≡ eqZ x y
@@ -46,6 +52,9 @@ same-number w (pos a) (negsuc b) f g = ne-eqb a (2 ^ bits w - suc b) (λ q. omeg
 same-number w (negsuc a) (pos b) f g = ne-eqb (2 ^ bits w - suc a) b (λ q. omega (arith, pow-bits w))
 same-number w (negsuc a) (negsuc b) f g =
     eqb-iff (2 ^ bits w - suc a) (2 ^ bits w - suc b) a b (λ q. omega (arith, pow-bits w)) (λ q. omega (arith, pow-bits w))
+
+pub is-number : (w : Width) (z : ℤ) (n : ℕ) → SFits w z → n < 2 ^ hbits w → eqZ z (pos n) ≡ eqb (ofZ w z) n
+is-number w z n f l = sym (same-number w z (pos n) f (record { sfits = l }))
 
 -- a number's bits, raised by 2^31 and wrapped, are the number and 2^31
 pub shifted : (s : ℤ) → SFits w32 s → (n : ℕ) → n ≡ (bitsOf 32 s + 2147483648) % 4294967296 → pos n ≡ s +ℤ pos 2147483648

@@ -14,6 +14,7 @@ use mir.ValLaws.{toZ-ofZ}
 use borrow.Author.Tests.{ltb-true, ltb-false}
 use Rattle.codec.proofs.Laws.Signed.{pos-cast}
 use Rattle.voting.specs.declared.settings.VotingConfig.{VotingConfig}
+use Rattle.voting.proofs.Laws.Tests.{neither}
 use Rattle.voting.specs.Settings.{votingLength, voteEpochs, activationEpochs, forkLimit, softForkApproved, settingsLarge}
 
 -- a product of two numbers of 32 bits leaves room for a third
@@ -57,10 +58,6 @@ module _ (g : VotingConfig) (z : ℤ) (f : SFits w32 z) where
   cast-64 t = let p = pos-cast w32 z f t in (p .0, omega (arith, p .1))
 
 -- settings that are not large
-or-false : (a b : Bool) → a || b ≡ false → (a ≡ false) × (b ≡ false)
-or-false true b e = absurd (let q : _≡_ {A = ℕ} 0 1 = cc in omega arith)
-or-false false b e = (refl, e)
-
 pub record Moderate (g : VotingConfig) : Type 0 where
   pub length-fits : votingLength g ≤ 65535
   pub votes-fit : voteEpochs g ≤ 65535
@@ -69,8 +66,8 @@ pub record Moderate (g : VotingConfig) : Type 0 where
 pub moderate : (g : VotingConfig) → settingsLarge g ≡ false → Moderate g
 unfolding settingsLarge
 moderate g e =
-    let a = or-false (ltb 65535 (votingLength g) || ltb 65535 (voteEpochs g)) (ltb 65535 (activationEpochs g)) e in
-    let b = or-false (ltb 65535 (votingLength g)) (ltb 65535 (voteEpochs g)) (a .0) in
+    let a = neither (ltb 65535 (votingLength g) || ltb 65535 (voteEpochs g)) (ltb 65535 (activationEpochs g)) e in
+    let b = neither (ltb 65535 (votingLength g)) (ltb 65535 (voteEpochs g)) (a .0) in
     record {
       length-fits = ltb-false 65535 (votingLength g) (b .0);
       votes-fit = ltb-false 65535 (voteEpochs g) (b .1);

@@ -21,7 +21,8 @@ use Rattle.voting.specs.declared.tally.Tallied.{Tallied}
 use Rattle.voting.specs.Common.{eqZ, count}
 use Rattle.voting.specs.Header.{checkHeaderVotes, votesFor}
 use Rattle.voting.specs.Tally.{headers, whole, noEntry, noTally, slotEntry, seeded, seeds, tallyVotesSeeded, entry, entries, firstCount}
-use Rattle.voting.proofs.Laws.Header.{Each, eqZ-true, ne-eqZ, small-id, legal-once}
+use Rattle.voting.proofs.Laws.Integers.{eqZ-true, ne-eqZ, is-number}
+use Rattle.voting.proofs.Laws.Header.{Each, small-id, legal-once}
 pub use Rattle.voting.proofs.Laws.Header.{Alike, Bytes, alike-small, alike-bytes}
 
 -- Counts
@@ -112,9 +113,7 @@ places v n y = rw (entry-count v n (y .first) (entry (y .second) (entry (y .thir
 
 -- the machine's test of an id for the fork
 fork-test : (z : ℤ) → SFits w8 z → eqZ z (pos 120) ≡ eqb (ofZ w8 z) 120
-unfolding eqZ
-fork-test (pos a) f = refl
-fork-test (negsuc a) f = sym (ne-eqb (256 - suc a) 120 (λ q. omega arith))
+fork-test z f = is-number w8 z 120 f (omega arith)
 
 pub is-fork : (z : ℤ) → SFits w8 z → ofZ w8 z ≡ 120 → eqZ z (pos 120) ≡ true
 is-fork z f e = fork-test z f ∙ eq-eqb (ofZ w8 z) 120 e

@@ -8,6 +8,7 @@ use lib.Dec.{eqb}
 use lib.IntN.{ℤ, pos, negsuc}
 use mir.Syntax.{w8, w32}
 use mir.Val.{SFits, toZ, ofZ}
+use native.Mathlib.Omega.{arith}
 use mir.ValLaws.{toZ-ofZ}
 use borrow.Author.Tests.{not-true, not-false, eqb-true, eq-eqb, ne-eqb}
 use Rattle.codec.specs.Refusal.{unknownParameter, absentParameter}
@@ -21,6 +22,7 @@ use Rattle.voting.specs.declared.ordinary.Voted.{Voted}
 use Rattle.voting.specs.Common.{eqZ}
 use Rattle.voting.specs.Table.{lookup, update}
 use Rattle.voting.specs.Tally.{entry, entries}
+use Rattle.voting.proofs.Laws.Integers.{is-number}
 use Rattle.voting.specs.Ordinary.{parameter, moved, known, passes, stops, onward, counts, writes, approvedVote, voted, ordinaryVotes}
 
 -- One vote: a law for each way out of the code. r: it counts; m: its parameter; k: m is known; v: the value of m.
@@ -56,16 +58,7 @@ module _ (g : VotingConfig) (from new : Table) (e : Entry) (r : Bool) (is-r : r 
           ap passes (is-t ∙ ap₂ (λ (n : ℕ) (y : ℤ). update new n (Number y)) (is-m ∙ ap parameter id-back) (toZ-ofZ w32 x fx ∙ is-x ∙ ap₂ moved id-back (toZ-ofZ w32 z fz)))
           ∙ found (Number z) q
 
--- A place of a tally: id 0 holds no entry
-no-entry : (z : ℤ) → SFits w8 z → ofZ w8 z ≡ 0 → eqZ z (pos 0) ≡ true
-unfolding eqZ
-no-entry z f q = ap (λ (y : ℤ). eqZ y (pos 0)) (sym (toZ-ofZ w8 z f) ∙ ap (toZ w8) q)
-
-an-entry : (z : ℤ) → (ofZ w8 z ≡ 0 → ⊥) → eqZ z (pos 0) ≡ false
-unfolding eqZ
-an-entry (pos n) d = ne-eqb n 0 d
-an-entry (negsuc n) d = refl
-
+-- A place of a tally: id 0 holds no entry.
 onward-end : (g : VotingConfig) (from : Table) (v : Voted) → onward v (ordinaryVotes g from []) ≡ v
 unfolding onward ordinaryVotes
 onward-end g from v = go (eqb (v .refusal) 0) refl
@@ -77,11 +70,11 @@ onward-end g from v = go (eqb (v .refusal) 0) refl
 module _ (g : VotingConfig) (from : Table) (e : Entry) (new : Table) where
   pub place-none : SFits w8 (e .id) → ofZ w8 (e .id) ≡ 0 → passes new ≡ ordinaryVotes g from (entry e []) new
   unfolding entry ordinaryVotes
-  place-none f q = rw (no-entry (e .id) f q)
+  place-none f q = rw (is-number w8 (e .id) 0 f (omega arith), eq-eqb (ofZ w8 (e .id)) 0 q)
 
-  pub place-one : (v : Voted) → v ≡ voted g from e new → (ofZ w8 (e .id) ≡ 0 → ⊥) → v ≡ ordinaryVotes g from (entry e []) new
+  pub place-one : (v : Voted) → v ≡ voted g from e new → SFits w8 (e .id) → (ofZ w8 (e .id) ≡ 0 → ⊥) → v ≡ ordinaryVotes g from (entry e []) new
   unfolding entry ordinaryVotes
-  place-one v q d = q ∙ sym (onward-end g from (voted g from e new)) ∙ rw (an-entry (e .id) d)
+  place-one v q f d = q ∙ sym (onward-end g from (voted g from e new)) ∙ rw (is-number w8 (e .id) 0 f (omega arith), ne-eqb (ofZ w8 (e .id)) 0 d)
 
 -- a place and then the rest
 place-onward : (g : VotingConfig) (from : Table) (e : Entry) (es : List Entry) (new : Table)

@@ -11,7 +11,7 @@ vote-requires : tie.Need-vote-requires
 vote-requires c κs = search needs
 
 returns-2 : tie.Need-returns-2
-returns-2 c = place-one _ _ _ _ _ (c .vote .ensures) (c .before .if1 .left)
+returns-2 c = place-one _ _ _ _ _ (c .vote .ensures) (search needs) (c .before .if1 .left)
 
 pub place-vote-spec : {M : Type 1} → statement M
 place-vote-spec = tie.close (tie.spec returns vote-requires returns-2)
