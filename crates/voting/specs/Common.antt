@@ -22,3 +22,8 @@ count p (x ∷ xs) = cond (p x) 1 0 + count p xs
 unfoldable pub first : ℕ → ℕ → ℕ
 first zero m = m
 first (suc n) m = suc n
+
+-- a statement of every element of a list
+abbrev pub Each : {A : Type 0} → (A → Type 0) → List A → Type 0
+Each P [] = Unit {0}
+Each P (x ∷ xs) = P x × Each P xs

@@ -1,13 +1,14 @@
 -- The votes of a header, and which headers are legal. docs/RULES.md, "Header bytes".
 -- Assumes nothing.
 use Prim.Native.Nat.{ℕ}
-use mathlib.Core.Bool.{Bool, true, false, not, cond, _||_}
+use mathlib.Core.Path.{_≡_}
+use mathlib.Core.Bool.{Bool, not, cond}
 use mathlib.Core.List.{List, [], _∷_}
 use lib.Dec.{ltb, eqb}
 use lib.IntN.{ℤ, pos, negℤ}
 use Rattle.codec.specs.Refusal.{tooManyVotes, repeatedVote, contradictoryVote}
 use Rattle.codec.specs.Signed.{signedOf, wrapped}
-use Rattle.voting.specs.Common.{eqZ, count, first}
+use Rattle.voting.specs.Common.{eqZ, count, first, Each}
 
 -- the votes among bytes: those that are not 0, as signed ids
 unfoldable pub votesIn : List ℕ → List ℤ
@@ -41,3 +42,7 @@ checkHeaderVotes bytes = checkVotes (votesIn bytes)
 -- some byte of the header is b; a header votes 120 if one of its bytes is 120
 unfoldable pub votesFor : ℕ → List ℕ → Bool
 votesFor b bytes = ltb 0 (count (eqb b) bytes)
+
+-- every header of a list is legal
+abbrev pub AllLegal : List (List ℕ) → Type 0
+AllLegal = Each (λ bytes. checkHeaderVotes bytes ≡ 0)

@@ -13,16 +13,12 @@ use borrow.Author.Tests.{ltb-true, ltb-false, eqb-true, eqb-false, lt-ltb, le-lt
 use Rattle.codec.specs.Refusal.{tooManyVotes, repeatedVote, contradictoryVote}
 use Rattle.codec.specs.Signed.{modulo, bitsOf, signedOf, wrapped}
 use Rattle.codec.proofs.Laws.Signed.{signed-back}
-use Rattle.voting.specs.Common.{eqZ, count, first}
+use Rattle.voting.specs.Common.{eqZ, count, first, Each}
 use Rattle.voting.proofs.Laws.Tests.{eqb-comm}
 use Rattle.voting.proofs.Laws.Integers.{eqZ-same, eqZ-true, ne-eqZ, eqZ-comm}
 use Rattle.voting.specs.Header.{votesIn, negation, ordinaryVote, fault, faultIn, checkVotes, checkHeaderVotes, votesFor}
 
--- a statement of every element of a list
-abbrev pub Each : {A : Type 0} → (A → Type 0) → List A → Type 0
-Each P [] = Unit {0}
-Each P (x ∷ xs) = P x × Each P xs
-
+-- a statement of every element, turned into another
 pub each : {A : Type 0} (P Q : A → Type 0) → ((x : A) → P x → Q x) → (xs : List A) → Each P xs → Each Q xs
 each P Q f [] h = h
 each P Q f (x ∷ xs) h = (f x (h .0), each P Q f xs (h .1))

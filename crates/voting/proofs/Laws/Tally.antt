@@ -18,11 +18,11 @@ use Rattle.codec.specs.Signed.{signedOf}
 use Rattle.voting.specs.declared.tally.Entry.{Entry}
 use Rattle.voting.specs.declared.tally.Tally.{Tally}
 use Rattle.voting.specs.declared.tally.Tallied.{Tallied}
-use Rattle.voting.specs.Common.{eqZ, count}
-use Rattle.voting.specs.Header.{checkHeaderVotes, votesFor}
+use Rattle.voting.specs.Common.{eqZ, count, Each}
+use Rattle.voting.specs.Header.{checkHeaderVotes, votesFor, AllLegal}
 use Rattle.voting.specs.Tally.{headers, whole, noEntry, noTally, slotEntry, seeded, seeds, tallyVotesSeeded, entry, entries, firstCount}
 use Rattle.voting.proofs.Laws.Integers.{eqZ-true, ne-eqZ, is-number}
-use Rattle.voting.proofs.Laws.Header.{Each, small-id, legal-once}
+use Rattle.voting.proofs.Laws.Header.{small-id, legal-once}
 pub use Rattle.voting.proofs.Laws.Header.{Alike, Bytes, alike-small, alike-bytes}
 
 -- Counts
@@ -148,10 +148,6 @@ headers-length (a ∷ b ∷ c ∷ bs) = let ih = headers-length bs in omega arit
 pub whole-threes : (bs : List ℕ) (n : ℕ) → length bs ≡ 3 * n → whole bs ≡ bs
 unfolding whole
 whole-threes bs n h = let e : 3 * (length bs / 3) ≡ length bs = omega arith in ap (λ (k : ℕ). take k bs) e ∙ take-length bs
-
--- every header is legal
-abbrev pub AllLegal : List (List ℕ) → Type 0
-AllLegal = Each (λ h. checkHeaderVotes h ≡ 0)
 
 -- a vote is among the bytes of legal headers as often as headers vote so
 once : (n m : ℕ) → n ≤ 1 → n + m ≡ cond (ltb 0 n) 1 0 + m
