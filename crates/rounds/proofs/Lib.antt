@@ -1,0 +1,11 @@
+pub mod Tests
+pub mod Scaled
+pub mod BookAt
+pub mod Counted
+pub mod ForkPart
+pub mod Invariant
+pub mod Rounds
+pub mod Life
+pub mod Promise
+pub mod Mainnet
+pub mod Examples
