@@ -1,26 +1,22 @@
 -- The boundary's parts in order, and the check of a block's version.
 -- Assumes nothing.
 use mathlib.Core.Path.{_≡_, refl, sym, ap, _∙_}
-use mathlib.Core.Bool.{Bool, true, false, not, cond, _&&_}
+use mathlib.Core.Bool.{Bool, true, false, not, _&&_}
 use mathlib.Core.List.{List}
-use Prim.Native.Nat.{ℕ, zero, suc, _<_, _^_}
+use Prim.Native.Nat.{ℕ, zero, suc, _<_}
 use native.Mathlib.Omega.{arith}
-use lib.Dec.{eqb}
 use lib.IntN.{ℤ, pos}
 use mir.Syntax.{w32}
 use mir.Val.{SFits, ofZ}
 use borrow.Author.Tests.{eq-eqb, ne-eqb}
 use Rattle.voting.specs.declared.settings.VotingConfig.{VotingConfig}
-use Rattle.voting.specs.declared.table.Value.{Value}
 use Rattle.voting.specs.declared.table.Value.the-variants.{Absent, Number}
 use Rattle.voting.specs.declared.table.Table.{Table}
 use Rattle.voting.specs.declared.tally.Entry.{Entry}
-use Rattle.voting.specs.declared.fork.Round.{Round}
 use Rattle.voting.specs.declared.fork.RoundAt.{RoundAt}
 use Rattle.voting.specs.declared.fork.Forked.{Forked}
 use Rattle.voting.specs.declared.ordinary.Voted.{Voted}
 use Rattle.voting.specs.declared.boundary.Boundary.{Boundary}
-use Rattle.voting.specs.Common.{eqZ}
 use Rattle.voting.specs.Table.{lookup, update, withFork, versionRefusal, checkBlockVersion}
 use Rattle.voting.specs.Tally.{firstCount}
 use Rattle.voting.specs.ForkPart.{roundAt, forkAfter}

@@ -1,13 +1,12 @@
 -- The fork check and the fork part, by the ways through the code.
 -- Assumes nothing.
-use mathlib.Core.Path.{_≡_, refl, sym, ap, _∙_}
+use mathlib.Core.Path.{_≡_, sym, ap, _∙_}
 use mathlib.Core.Bool.{Bool, true, false, not, cond, _&&_, _||_}
-use Prim.Native.Nat.{ℕ, suc, _+_, _*_, _%_, _≤_, _<_, _^_}
+use Prim.Native.Nat.{ℕ, _+_, _*_, _<_, _^_}
 use mathlib.Core.List.{List}
 use lib.Dec.{ltb, leb, eqb}
 use borrow.Author.Tests.{eq-eqb, ne-eqb}
-use lib.IntN.{ℤ, pos, negsuc, _+ℤ_}
-use lib.Signed.{ltZ, leZ}
+use lib.IntN.{ℤ, pos, _+ℤ_}
 use mir.Syntax.{w32}
 use mir.Val.{SFits, toZ, ofZ}
 use mir.ValLaws.{toZ-ofZ}
@@ -18,17 +17,16 @@ use Rattle.voting.specs.declared.table.Fork.{Fork}
 use Rattle.voting.specs.declared.table.Table.{Table}
 use Rattle.voting.specs.declared.fork.Round.{Round}
 use Rattle.voting.specs.declared.fork.RoundAt.{RoundAt}
-use Rattle.voting.specs.declared.fork.Forked.{Forked}
 use Rattle.voting.specs.declared.fork.ForkVote.{ForkVote}
 use Rattle.voting.specs.declared.fork.ForkVote.the-variants.{Allowed, Barred, Refused}
 use Rattle.codec.specs.Signed.{signedOf, wrapped}
 use Rattle.codec.proofs.Laws.Signed.{wrapped-natural, wrapped-pos}
 use Rattle.voting.specs.Common.{eqZ}
-use Rattle.voting.specs.Settings.{votingLength, voteEpochs, activationEpochs, version2Height, softForkApproved, settingsLarge}
+use Rattle.voting.specs.Settings.{votingLength, voteEpochs, activationEpochs, softForkApproved, settingsLarge}
 use Rattle.voting.specs.Table.{lookup, forkEntries}
 use Rattle.voting.specs.Header.{votesFor}
 use Rattle.voting.specs.ForkCheck.{epochsAfter, between, barred, checkRound, checkForkVote}
-use Rattle.voting.specs.ForkPart.{noRound, happens, roundRefused, forkTotal, roundSteps, roundBy, roundFrom, roundAt, storedOr, votesAfter, startAfter, risen, forced, versionAfter, forkAfter}
+use Rattle.voting.specs.ForkPart.{noRound, happens, roundRefused, forkTotal, roundSteps, roundBy, roundFrom, roundAt, storedOr, votesAfter, startAfter, risen, forced, versionAfter}
 use Rattle.voting.proofs.Laws.Integers.{at-exactly, at-most, at-least, below}
 
 -- a shifted height, as the code has it: the start is read back from its bits

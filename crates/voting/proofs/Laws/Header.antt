@@ -5,17 +5,17 @@ use mathlib.Core.Bool.{Bool, true, false, not, cond, _&&_}
 use mathlib.Core.List.{List, [], _∷_}
 use Prim.Native.Nat.{ℕ, zero, suc, _+_, _-_, _≤_, _<_}
 use native.Mathlib.Omega.{arith}
-use lib.Dec.{T, eqb, ltb}
+use lib.Dec.{eqb, ltb}
 use lib.IntN.{ℤ, pos, negsuc, negℤ}
 use lib.ListN.{length, getD}
 use mir.Syntax.{w8}
-use borrow.Author.Tests.{ltb-true, ltb-false, eqb-true, eqb-false, lt-ltb, le-ltb, eq-eqb, ne-eqb}
+use borrow.Author.Tests.{ltb-true, ltb-false, eqb-true, eqb-false, lt-ltb, le-ltb, ne-eqb}
 use Rattle.codec.specs.Refusal.{tooManyVotes, repeatedVote, contradictoryVote}
 use Rattle.codec.specs.Signed.{modulo, bitsOf, signedOf, wrapped}
 use Rattle.codec.proofs.Laws.Signed.{signed-back}
 use Rattle.voting.specs.Common.{eqZ, count, first, Each}
 use Rattle.voting.proofs.Laws.Tests.{eqb-comm}
-use Rattle.voting.proofs.Laws.Integers.{eqZ-same, eqZ-true, ne-eqZ, eqZ-comm}
+use Rattle.voting.proofs.Laws.Integers.{eqZ-same, ne-eqZ, eqZ-comm}
 use Rattle.voting.specs.Header.{votesIn, negation, ordinaryVote, fault, faultIn, checkVotes, checkHeaderVotes, votesFor}
 
 -- a statement of every element, turned into another

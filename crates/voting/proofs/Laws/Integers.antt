@@ -2,16 +2,16 @@
 -- Assumes nothing.
 use mathlib.Core.Path.{_≡_, refl, sym, ap, _∙_, subst}
 use mathlib.Core.Bool.{Bool, true, false, cond}
-use Prim.Native.Nat.{ℕ, zero, suc, _+_, _*_, _-_, _%_, _≤_, _<_, _^_}
+use Prim.Native.Nat.{ℕ, suc, _+_, _-_, _%_, _≤_, _<_, _^_}
 use native.Mathlib.Nat.{mod-eq-of-lt}
 use native.Mathlib.Omega.{arith}
 use lib.Dec.{T, ltb, leb, eqb}
-use lib.IntN.{ℤ, pos, negsuc, natAbs, _+ℤ_, +ℤ-assoc, +ℤ-comm}
-use lib.Signed.{mag, ltZ, leZ, nonNeg}
-use mir.Syntax.{Width, w8, w32, w64}
-use mir.Val.{bits, hbits, Fits, SFits, toZ, ofZ}
-use mir.ValLaws.{pow-bits, toZ-ofZ}
-use borrow.Author.Tests.{ltb-true, ltb-false, leb-true, leb-false, eqb-true, eqb-false, lt-ltb, le-ltb, lt-leb, le-leb, eq-eqb, ne-eqb}
+use lib.IntN.{ℤ, pos, negsuc, _+ℤ_, +ℤ-assoc, +ℤ-comm}
+use lib.Signed.{mag, ltZ, leZ}
+use mir.Syntax.{Width, w32}
+use mir.Val.{bits, hbits, SFits, ofZ}
+use mir.ValLaws.{pow-bits}
+use borrow.Author.Tests.{ltb-false, eqb-true, le-ltb, lt-leb, le-leb, eq-eqb, ne-eqb}
 use Rattle.codec.specs.Signed.{bitsOf}
 use Rattle.codec.proofs.Laws.Signed.{ofZ-is}
 use Rattle.voting.specs.Common.{eqZ}

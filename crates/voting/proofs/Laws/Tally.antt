@@ -7,7 +7,7 @@ use Prim.Native.Nat.{ℕ, zero, suc, _+_, _-_, _*_, _/_, _≤_, _<_}
 use native.Mathlib.Numerals.{add-one}
 use native.Mathlib.Omega.{arith}
 use lib.Dec.{eqb, ltb}
-use lib.IntN.{ℤ, pos, negsuc}
+use lib.IntN.{ℤ, pos}
 use lib.ListN.{length, getD, take, drop, length-drop, drop-of-length-le}
 use lib.Seq.{drop-cons, take-all, take-length, length-take-le}
 use mir.Syntax.{w8}
@@ -18,8 +18,8 @@ use Rattle.codec.specs.Signed.{signedOf}
 use Rattle.voting.specs.declared.tally.Entry.{Entry}
 use Rattle.voting.specs.declared.tally.Tally.{Tally}
 use Rattle.voting.specs.declared.tally.Tallied.{Tallied}
-use Rattle.voting.specs.Common.{eqZ, count, Each}
-use Rattle.voting.specs.Header.{checkHeaderVotes, votesFor, AllLegal}
+use Rattle.voting.specs.Common.{eqZ, count}
+use Rattle.voting.specs.Header.{votesFor, AllLegal}
 use Rattle.voting.specs.Tally.{headers, whole, noEntry, noTally, slotEntry, seeded, seeds, tallyVotesSeeded, entry, entries, firstCount}
 use Rattle.voting.proofs.Laws.Integers.{eqZ-true, ne-eqZ, is-number}
 use Rattle.voting.proofs.Laws.Header.{small-id, legal-once}

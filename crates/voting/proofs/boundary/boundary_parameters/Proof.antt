@@ -1,5 +1,5 @@
 -- `voting::boundary::boundary_parameters` meets its contract. Assumes nothing.
-use mathlib.Core.Path.{_≡_, refl, sym, ap, _∙_}
+use mathlib.Core.Path.{ap, _∙_}
 use Prim.Native.Nat.{ℕ}
 use Rattle.voting.specs.ForkPart.{roundAt}
 use Rattle.voting.proofs.Laws.Boundary.{round-stops, fork-stops, votes-stop, votes-pass}

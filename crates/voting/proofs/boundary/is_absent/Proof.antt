@@ -1,5 +1,4 @@
 -- `voting::boundary::is_absent` meets its contract. Assumes nothing.
-use mathlib.Core.Path.{_≡_, refl, sym, ap, _∙_}
 use Rattle.voting.specs.Boundary.{isAbsent}
 use borrow.Author.Needs.{needs}
 use Rattle.voting.proofs.boundary.is_absent.Statement.{statement}

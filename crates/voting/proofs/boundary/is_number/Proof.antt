@@ -1,9 +1,7 @@
 -- `voting::boundary::is_number` meets its contract. Assumes nothing.
-use mathlib.Core.Path.{_≡_, refl, sym, ap, _∙_}
-use lib.IntN.{ℤ, pos}
+use mathlib.Core.Path.{sym, _∙_}
 use mir.Syntax.{w32}
-use mir.Val.{SFits, toZ, ofZ}
-use mir.ValLaws.{toZ-ofZ}
+use mir.Val.{SFits}
 use Rattle.voting.specs.Boundary.{isNumber}
 use Rattle.voting.proofs.Laws.Integers.{same-number}
 use borrow.Author.Needs.{needs}

@@ -1,9 +1,8 @@
 -- `voting::boundary::with_subblocks` meets its contract. Assumes nothing.
-use mathlib.Core.Path.{_≡_, refl, sym, ap, _∙_}
-use lib.IntN.{ℤ, pos}
+use mathlib.Core.Path.{ap, _∙_}
+use lib.IntN.{pos}
 use Rattle.voting.specs.Boundary.{isNumber, isAbsent}
 use Rattle.voting.specs.declared.table.Value.{Value}
-use Rattle.voting.specs.declared.table.Value.the-variants.{Absent, Number}
 use Rattle.voting.proofs.Laws.Boundary.{subblocks-new, subblocks-same}
 use borrow.Author.Needs.{needs}
 use Rattle.voting.proofs.boundary.with_subblocks.Statement.{statement}

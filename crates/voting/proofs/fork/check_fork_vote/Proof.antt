@@ -1,5 +1,5 @@
 -- `voting::fork::check_fork_vote` meets its contract. Assumes nothing.
-use mathlib.Core.Path.{_≡_, refl, sym, ap, _∙_}
+use mathlib.Core.Path.{sym, _∙_}
 use Rattle.voting.proofs.Laws.Fork.{check-large, check-silent, check-voting}
 use borrow.Author.Needs.{needs}
 use Rattle.voting.proofs.fork.check_fork_vote.Statement.{statement}

@@ -1,10 +1,8 @@
 -- `voting::fork::check_round` meets its contract. Assumes nothing.
-use mathlib.Core.Path.{_≡_, refl, sym, ap, _∙_}
-use lib.IntN.{ℤ, pos}
+use mathlib.Core.Path.{_∙_}
 use mir.Syntax.{w32}
-use mir.Val.{SFits, toZ, ofZ}
+use mir.Val.{SFits}
 use mir.ValLaws.{toZ-ofZ}
-use Rattle.voting.specs.ForkCheck.{barred}
 use Rattle.voting.proofs.Laws.Fork.{round-none, round-orphan, round-barred, round-allowed}
 use borrow.Author.Needs.{needs}
 use Rattle.voting.proofs.fork.check_round.Statement.{statement}

@@ -1,11 +1,9 @@
 -- `voting::fork::epochs_after` meets its contract. Assumes nothing.
-use mathlib.Core.Path.{_≡_, refl, sym, ap, _∙_}
+use mathlib.Core.Path.{ap, _∙_}
 use native.Mathlib.Omega.{arith}
 use Prim.Native.Nat.{ℕ, _<_, _^_, _+_, _*_, _%_}
 use Rattle.codec.specs.Signed.{bitsOf}
-use lib.IntN.{ℤ, pos}
 use mir.Syntax.{w32}
-use mir.Val.{SFits, toZ, ofZ}
 use mir.ValLaws.{toZ-ofZ}
 use Rattle.voting.proofs.Laws.Integers.{shifted, shifted-sum}
 use Rattle.voting.proofs.Laws.Settings.{product}

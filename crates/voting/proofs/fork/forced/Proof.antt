@@ -1,14 +1,12 @@
 -- `voting::fork::forced` meets its contract. Assumes nothing.
-use mathlib.Core.Path.{_≡_, refl, sym, ap, _∙_}
-use lib.IntN.{ℤ, pos}
+use mathlib.Core.Path.{sym, ap, _∙_}
+use lib.IntN.{pos}
 use mir.Syntax.{w32}
-use mir.Val.{SFits, toZ, ofZ}
 use mir.ValLaws.{toZ-ofZ}
 use native.Mathlib.Omega.{arith}
 use mathlib.Core.Bool.{Bool, _&&_}
 use Rattle.voting.proofs.Laws.Integers.{same-number}
 use Rattle.voting.proofs.Laws.Fork.{forced-two, not-forced}
-use borrow.Author.Needs.{needs}
 use Rattle.voting.proofs.fork.forced.Statement.{statement}
 use Rattle.voting.proofs.fork.forced.Tie as tie
 

@@ -1,5 +1,5 @@
 -- `voting::fork::fork_after` meets its contract. Assumes nothing.
-use mathlib.Core.Path.{_≡_, refl, sym, ap, _∙_}
+use mathlib.Core.Path.{_∙_}
 use Rattle.voting.specs.ForkPart.{forkAfter}
 use borrow.Author.Needs.{needs}
 use Rattle.voting.proofs.fork.fork_after.Statement.{statement}

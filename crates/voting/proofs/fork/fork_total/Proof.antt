@@ -1,12 +1,9 @@
 -- `voting::fork::fork_total` meets its contract. Assumes nothing.
-use mathlib.Core.Path.{_≡_, refl, sym, ap, _∙_}
+use mathlib.Core.Path.{_∙_}
 use Prim.Native.Nat.{_<_, _^_}
-use Rattle.codec.specs.Signed.{wrapped}
-use lib.IntN.{ℤ, pos}
 use mir.Syntax.{w32}
-use mir.Val.{SFits, toZ, ofZ}
+use mir.Val.{SFits}
 use mir.ValLaws.{toZ-ofZ}
-use lib.IntN.{_+ℤ_}
 use Rattle.voting.proofs.Laws.Fork.{total-is}
 use borrow.Author.Needs.{needs}
 use Rattle.voting.proofs.fork.fork_total.Statement.{statement}

@@ -1,5 +1,5 @@
 -- `voting::fork::new_round` meets its contract. Assumes nothing.
-use mathlib.Core.Path.{_≡_, refl, sym, ap, _∙_}
+use mathlib.Core.Path.{refl}
 use Rattle.voting.specs.ForkPart.{roundFrom}
 use borrow.Author.Needs.{needs}
 use Rattle.voting.proofs.fork.new_round.Statement.{statement}

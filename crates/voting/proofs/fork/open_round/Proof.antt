@@ -1,10 +1,6 @@
 -- `voting::fork::open_round` meets its contract. Assumes nothing.
-use mathlib.Core.Path.{_≡_, refl, sym, ap, _∙_}
+use mathlib.Core.Path.{_∙_}
 use native.Mathlib.Omega.{arith}
-use lib.IntN.{ℤ, pos}
-use mir.Syntax.{w32}
-use mir.Val.{SFits, toZ, ofZ}
-use mir.ValLaws.{toZ-ofZ}
 use Rattle.voting.proofs.Laws.Settings.{moderate}
 use Rattle.voting.proofs.Laws.Fork.{plain, open-by}
 use borrow.Author.Needs.{needs}

@@ -1,11 +1,10 @@
 -- `voting::fork::round_at` meets its contract. Assumes nothing.
-use mathlib.Core.Path.{_≡_, refl, sym, ap, _∙_}
+use mathlib.Core.Path.{sym, ap, _∙_}
 use Rattle.voting.proofs.Laws.Fork.{at-zero, at-large, at-round}
-use Rattle.voting.specs.declared.table.Value.{Value}
-use Rattle.voting.specs.declared.table.Value.the-variants.{Absent, Number}
-use lib.IntN.{ℤ, pos}
+use Rattle.voting.specs.declared.table.Value.the-variants.{Number}
+use lib.IntN.{ℤ}
 use mir.Syntax.{w32}
-use mir.Val.{SFits, toZ, ofZ}
+use mir.Val.{SFits}
 use mir.ValLaws.{toZ-ofZ}
 use Rattle.voting.specs.ForkPart.{roundFrom}
 use borrow.Author.Needs.{needs}

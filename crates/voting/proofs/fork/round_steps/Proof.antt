@@ -1,13 +1,7 @@
 -- `voting::fork::round_steps` meets its contract. Assumes nothing.
-use mathlib.Core.Path.{_≡_, refl, sym, ap, _∙_}
-use lib.IntN.{ℤ, pos}
 use mir.Syntax.{w32}
-use mir.Val.{SFits, toZ, ofZ}
 use mir.ValLaws.{toZ-ofZ}
 use Rattle.voting.specs.ForkPart.{roundSteps}
-use mathlib.Core.Bool.{cond}
-use Rattle.voting.specs.declared.table.Value.{Value}
-use Rattle.voting.specs.declared.table.Value.the-variants.{Absent, Number}
 use borrow.Author.Needs.{needs}
 use Rattle.voting.proofs.fork.round_steps.Statement.{statement}
 use Rattle.voting.proofs.fork.round_steps.Tie as tie

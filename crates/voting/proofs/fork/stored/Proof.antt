@@ -1,11 +1,9 @@
 -- `voting::fork::stored` meets its contract. Assumes nothing.
-use mathlib.Core.Path.{_≡_, refl, sym, ap, _∙_}
-use lib.IntN.{ℤ, pos}
+use mathlib.Core.Path.{ap}
+use lib.IntN.{ℤ}
 use mir.Syntax.{w32}
-use mir.Val.{SFits, toZ, ofZ}
 use mir.ValLaws.{toZ-ofZ}
-use Rattle.voting.specs.declared.table.Value.{Value}
-use Rattle.voting.specs.declared.table.Value.the-variants.{Absent, Number}
+use Rattle.voting.specs.declared.table.Value.the-variants.{Number}
 use borrow.Author.Needs.{needs}
 use Rattle.voting.proofs.fork.stored.Statement.{statement}
 use Rattle.voting.proofs.fork.stored.Tie as tie

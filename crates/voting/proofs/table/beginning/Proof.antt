@@ -1,13 +1,7 @@
 -- `voting::table::beginning` meets its contract. Assumes nothing.
-use mathlib.Core.Path.{_≡_, refl, sym, ap, _∙_}
-use lib.IntN.{ℤ, pos}
 use mir.Syntax.{w32}
-use mir.Val.{SFits, toZ, ofZ}
 use mir.ValLaws.{toZ-ofZ}
 use Rattle.voting.specs.Table.{beginning}
-use Rattle.voting.specs.declared.table.Value.{Value}
-use Rattle.voting.specs.declared.table.Value.the-variants.{Absent, Number}
-use borrow.Author.Needs.{needs}
 use Rattle.voting.proofs.table.beginning.Statement.{statement}
 use Rattle.voting.proofs.table.beginning.Tie as tie
 

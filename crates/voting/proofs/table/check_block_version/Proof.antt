@@ -1,9 +1,6 @@
 -- `voting::table::check_block_version` meets its contract. Assumes nothing.
-use mathlib.Core.Path.{_≡_, refl, sym, ap, _∙_}
-use lib.IntN.{ℤ, pos}
 use mir.Syntax.{w32}
-use mir.Val.{SFits, toZ, ofZ}
-use mir.ValLaws.{toZ-ofZ}
+use mir.Val.{SFits}
 use Prim.Native.Nat.{_<_}
 use Rattle.voting.proofs.Laws.Boundary.{version-none, version-same, version-other}
 use borrow.Author.Needs.{needs}

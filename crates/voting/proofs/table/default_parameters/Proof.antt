@@ -1,5 +1,5 @@
 -- `voting::table::default_parameters` meets its contract. Assumes nothing.
-use mathlib.Core.Path.{_≡_, refl, sym, ap, _∙_}
+use mathlib.Core.Path.{sym, ap, _∙_}
 use Rattle.voting.specs.Table.{defaultParameters}
 use borrow.Author.Needs.{needs}
 use Rattle.voting.proofs.table.default_parameters.Statement.{statement}

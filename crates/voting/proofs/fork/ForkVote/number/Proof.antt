@@ -1,5 +1,5 @@
 -- `voting::fork::ForkVote::number` meets its contract. Assumes nothing.
-use mathlib.Core.Path.{_≡_, refl, sym, ap, _∙_}
+use mathlib.Core.Path.{sym, ap}
 use Rattle.voting.specs.ForkCheck.{forkRefusal}
 use borrow.Author.Needs.{needs}
 use Rattle.voting.proofs.fork.ForkVote.number.Statement.{statement}

@@ -1,7 +1,6 @@
 -- `voting::settings::VotingConfig::mainnet` meets its contract. Assumes nothing.
-use mathlib.Core.Path.{_≡_, refl, sym, ap, _∙_}
+use mathlib.Core.Path.{refl}
 use Rattle.voting.specs.Settings.{mainnet}
-use borrow.Author.Needs.{needs}
 use Rattle.voting.proofs.settings.VotingConfig.mainnet.Statement.{statement}
 use Rattle.voting.proofs.settings.VotingConfig.mainnet.Tie as tie
 

@@ -1,7 +1,6 @@
 -- `voting::settings::VotingConfig::settings_large` meets its contract. Assumes nothing.
-use mathlib.Core.Path.{_≡_, refl, sym, ap, _∙_}
+use mathlib.Core.Path.{refl}
 use Rattle.voting.specs.Settings.{settingsLarge}
-use borrow.Author.Needs.{needs}
 use Rattle.voting.proofs.settings.VotingConfig.settings_large.Statement.{statement}
 use Rattle.voting.proofs.settings.VotingConfig.settings_large.Tie as tie
 

@@ -1,7 +1,6 @@
 -- `voting::settings::VotingConfig::testnet` meets its contract. Assumes nothing.
-use mathlib.Core.Path.{_≡_, refl, sym, ap, _∙_}
+use mathlib.Core.Path.{refl}
 use Rattle.voting.specs.Settings.{testnet}
-use borrow.Author.Needs.{needs}
 use Rattle.voting.proofs.settings.VotingConfig.testnet.Statement.{statement}
 use Rattle.voting.proofs.settings.VotingConfig.testnet.Tie as tie
 
