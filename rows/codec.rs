@@ -1,30 +1,11 @@
 // Prints rows of recorded answers for the calls of crate codec (docs/VECTORS.md has the form and says how to run this).
 // At the edges of their ranges the answers are Rust's own: its casts, wrapping_add, wrapping_neg, from_be_bytes and to_be_bytes; for
-// VLQ numbers, which the ported Rust takes from a library that is not at hand, the reader and the writer below, written from
+// VLQ numbers, which the ported Rust takes from a library that is not at hand, the reader in common.rs and the writer below, written from
 // docs/RULES.md. The program's argument names a list of VLQ answers from outside, which is turned into rows as it stands.
 
-fn hex(bytes: &[u8]) -> String {
-    if bytes.is_empty() {
-        return "-".to_string();
-    }
-    bytes.iter().map(|b| format!("{b:02x}")).collect()
-}
+mod common;
 
-fn row(call: u8, input: &[u8], answer: &[u8]) {
-    println!("{call:02x} {} {}", hex(input), hex(answer));
-}
-
-// The value and how many bytes it takes.
-fn vlq_read(s: &[u8], width: u32) -> Option<(u64, usize)> {
-    let mut value: u64 = 0;
-    for (i, b) in s.iter().take(10).enumerate() {
-        value |= ((b & 0x7f) as u64) << (7 * i);
-        if b & 0x80 == 0 {
-            return if value >> width == 0 { Some((value, i + 1)) } else { None };
-        }
-    }
-    None
-}
+use common::{bytes_of, row, vlq_read};
 
 fn vlq_write(mut x: u64) -> Vec<u8> {
     let mut out = vec![];
@@ -79,10 +60,6 @@ fn signed_row(call: u8, input: &[u8], negative: bool, bits: &[u8]) {
     row(call, input, &answer);
 }
 
-fn bytes_of(text: &str) -> Vec<u8> {
-    (0..text.len() / 2).map(|i| u8::from_str_radix(&text[2 * i..2 * i + 2], 16).unwrap()).collect()
-}
-
 // A line 'vlq_read TAB width bytes TAB ok value used form', '.. TAB unreadable', or 'vlq_write TAB value TAB ok bytes'.
 fn from_list(line: &str) {
     let parts: Vec<&str> = line.split('\t').collect();
@@ -102,7 +79,7 @@ fn from_list(line: &str) {
         "32" => 2,
         _ => return,
     };
-    let input: Vec<u8> = [0; 4].into_iter().chain(bytes_of(bytes.trim_matches('-'))).collect();
+    let input: Vec<u8> = [0; 4].into_iter().chain(bytes_of(bytes)).collect();
     let output: Vec<u8> = if answer[0] == "ok" {
         let value: u64 = answer[1].parse().unwrap();
         let next: u32 = answer[2].parse().unwrap();

@@ -13,7 +13,7 @@ use codec::vlq::Read;
 // The answer where the input is not as long as its call takes: more bytes than any answer has, so that such a row differs.
 pub const NO_ANSWER: usize = 0xffff_ffff;
 
-fn byte_at(s: &[u8], i: usize) -> u8 {
+pub(crate) fn byte_at(s: &[u8], i: usize) -> u8 {
     if i < s.len() { s[i] } else { 0 }
 }
 
@@ -25,7 +25,7 @@ fn u16_at(s: &[u8], at: usize) -> u16
     (a as u16) * 256 + (b as u16)
 }
 
-fn u32_at(s: &[u8], at: usize) -> u32
+pub(crate) fn u32_at(s: &[u8], at: usize) -> u32
     requires { ⌜ at ≤ 900 ⌝ }
 {
     let a = u16_at(s, at);
@@ -51,7 +51,7 @@ fn put_u16(out: &mut [u8], at: usize, n: u16) -> usize
     at + 2
 }
 
-fn put_u32(out: &mut [u8], at: usize, n: u32) -> usize
+pub(crate) fn put_u32(out: &mut [u8], at: usize, n: u32) -> usize
     requires { ⌜ at ≤ 900 ⌝ }
     ensures { λ r. ⌜ r ≡ at + 4 ⌝ }
 {
@@ -59,7 +59,7 @@ fn put_u32(out: &mut [u8], at: usize, n: u32) -> usize
     put_u16(out, k, (n % 65536) as u16)
 }
 
-fn put_u64(out: &mut [u8], at: usize, n: u64) -> usize
+pub(crate) fn put_u64(out: &mut [u8], at: usize, n: u64) -> usize
     requires { ⌜ at ≤ 800 ⌝ }
     ensures { λ r. ⌜ r ≡ at + 8 ⌝ }
 {
@@ -78,7 +78,7 @@ fn put_count(out: &mut [u8], at: usize, n: usize) -> usize
     put_u32(out, at, 0xffff_ffff)
 }
 
-fn flag(b: bool) -> u8 {
+pub(crate) fn flag(b: bool) -> u8 {
     if b { 1 } else { 0 }
 }
 

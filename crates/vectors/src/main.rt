@@ -4,6 +4,7 @@
 mod calls;
 mod codec_calls;
 mod row;
+mod voting_calls;
 
 use row::Row;
 

@@ -94,13 +94,13 @@ risen rose z = cond rose (wrapped 32 (z +ℤ pos 1)) z
 unfoldable pub forced : Bool → ℤ → ℤ
 forced at z = cond (at && eqZ z (pos 1)) (pos 2) z
 
--- an absent version is 20 where one of the two needs it
-unfoldable pub versionAfter : Bool → Bool → Value → Value → Value → Forked
-versionAfter rose at votes start Absent =
-    record { refusal = cond (rose || at) blockVersionAbsent 0; fork = forkEntries votes start Absent }
-versionAfter rose at votes start (Number z) =
+-- with the entries 121 and 122 that come after it; an absent version is 20 where one of the two needs it, and the old entries stay
+unfoldable pub versionAfter : Bool → Bool → Value → Value → Fork → Value → Forked
+versionAfter rose at votes start old Absent =
+    cond (rose || at) (record { refusal = blockVersionAbsent; fork = old }) (record { refusal = 0; fork = forkEntries votes start Absent })
+versionAfter rose at votes start old (Number z) =
     record { refusal = 0; fork = forkEntries votes start (Number (forced at (risen rose z))) }
 
 unfoldable pub forkAfter : VotingConfig → ℕ → Round → Fork → Forked
 forkAfter g height r old =
-    versionAfter (r .rose) (eqb height (version2Height g)) (votesAfter r (old .votes)) (startAfter r height (old .start)) (old .version)
+    versionAfter (r .rose) (eqb height (version2Height g)) (votesAfter r (old .votes)) (startAfter r height (old .start)) old (old .version)

@@ -111,7 +111,7 @@ impl ForkVote {
 }
 
 // Nothing happens to a round.
-pub fn no_round() -> Round
+pub(crate) fn no_round() -> Round
     ensures { λ r. ⌜ r ≡ noRound ⌝ }
 {
     Round {
@@ -306,39 +306,44 @@ fn forced(at: bool, z: i32) -> i32
     z
 }
 
-fn version_after(rose: bool, at: bool, votes: Value, start: Value, version: Value) -> Forked
-    ensures { λ r. ⌜ r ≡ versionAfter rose at votes start version ⌝ }
+fn version_after(
+    rose: bool,
+    at: bool,
+    votes: Value,
+    start: Value,
+    old: Fork,
+    version: Value,
+) -> Forked
+    ensures { λ r. ⌜ r ≡ versionAfter rose at votes start old version ⌝ }
 {
     match version {
         Value::Absent => {
+            if rose | at {
+                return Forked {
+                    refusal: refusal::BLOCK_VERSION_ABSENT,
+                    fork: old,
+                };
+            }
             let fork = Fork {
                 votes,
                 start,
                 version,
             };
-            if rose | at {
-                return Forked {
-                    refusal: refusal::BLOCK_VERSION_ABSENT,
-                    fork,
-                };
-            }
             Forked { refusal: 0, fork }
         }
         Value::Number(z) => {
             let n = forced(at, risen(rose, z));
-            Forked {
-                refusal: 0,
-                fork: Fork {
-                    votes,
-                    start,
-                    version: Value::Number(n),
-                },
-            }
+            let fork = Fork {
+                votes,
+                start,
+                version: Value::Number(n),
+            };
+            Forked { refusal: 0, fork }
         }
     }
 }
 
-// The fork entries after a boundary at which this happens to a round, or 20.
+// The fork entries after a boundary at which this happens to a round; or 20 and the old ones.
 pub fn fork_after(config: VotingConfig, height: u32, round: Round, old: Fork) -> Forked
     ensures { λ r. ⌜ r ≡ forkAfter config height round old ⌝ }
 {
@@ -348,5 +353,5 @@ pub fn fork_after(config: VotingConfig, height: u32, round: Round, old: Fork) ->
     let votes = votes_after(round, collected);
     let start = start_after(round, height, begun);
     let at = height == config.version2_activation_height;
-    version_after(round.rose, at, votes, start, version)
+    version_after(round.rose, at, votes, start, old, version)
 }

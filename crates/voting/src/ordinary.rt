@@ -175,7 +175,7 @@ fn place_vote(config: VotingConfig, from: Table, e: Entry, new: Table) -> Voted
 }
 
 // The votes of a tally in order.
-pub fn ordinary_votes(config: VotingConfig, from: Table, tally: Tally) -> Voted
+pub(crate) fn ordinary_votes(config: VotingConfig, from: Table, tally: Tally) -> Voted
     ensures { λ r. ⌜ r ≡ ordinaryVotes config from (entries tally) from ⌝ }
 {
     let a = tally.first;

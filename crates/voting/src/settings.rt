@@ -68,7 +68,7 @@ impl VotingConfig {
     }
 
     // A length or a number of epochs is too large to be taken.
-    pub fn settings_large(self) -> bool
+    pub(crate) fn settings_large(self) -> bool
         ensures { λ r. ⌜ r ≡ settingsLarge self ⌝ }
     {
         (65535 < self.voting_length)

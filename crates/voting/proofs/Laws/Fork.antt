@@ -157,11 +157,15 @@ pub not-forced : (at : Bool) (z : ℤ) → (at && eqZ z (pos 1)) ≡ false → z
 unfolding forced
 not-forced at z e = rw e
 
-module _ (rose at : Bool) (votes start version : Value) where
-  pub no-version : version ≡ Absent → (t : Bool) → (rose || at) ≡ t → record { refusal = cond t 20 0; fork = forkEntries votes start version } ≡ versionAfter rose at votes start version
+module _ (rose at : Bool) (votes start : Value) (old : Fork) (version : Value) where
+  pub version-needed : version ≡ Absent → (rose || at) ≡ true → record { refusal = 20; fork = old } ≡ versionAfter rose at votes start old version
   unfolding versionAfter
-  no-version e t q = rw (e, q)
+  version-needed e q = rw (e, q)
 
-  pub some-version : (z a b : ℤ) → version ≡ Number z → a ≡ risen rose z → b ≡ forced at a → record { refusal = 0; fork = forkEntries votes start (Number b) } ≡ versionAfter rose at votes start version
+  pub no-version : version ≡ Absent → (rose || at) ≡ false → record { refusal = 0; fork = forkEntries votes start version } ≡ versionAfter rose at votes start old version
+  unfolding versionAfter
+  no-version e q = rw (e, q)
+
+  pub some-version : (z a b : ℤ) → version ≡ Number z → a ≡ risen rose z → b ≡ forced at a → record { refusal = 0; fork = forkEntries votes start (Number b) } ≡ versionAfter rose at votes start old version
   unfolding versionAfter
   some-version z a b e is-a is-b = rw (e, is-b, is-a)

@@ -3,7 +3,7 @@ use mathlib.Core.Path.{ap, _∙_}
 use mir.Syntax.{w32}
 use mir.Val.{SFits, toZ, ofZ}
 use mir.ValLaws.{toZ-ofZ}
-use Rattle.voting.proofs.Laws.Fork.{no-version, some-version}
+use Rattle.voting.proofs.Laws.Fork.{version-needed, no-version, some-version}
 use Rattle.voting.specs.ForkPart.{risen, forced}
 use borrow.Author.Needs.{needs}
 use Rattle.voting.proofs.fork.version_after.Statement.{statement}
@@ -13,7 +13,7 @@ enum-told : tie.Need-enum-told
 enum-told c = search needs
 
 returns : tie.Need-returns
-returns c = no-version _ _ _ _ _ (c .before .enum-told .given .1) _ (c .if1 .taken)
+returns c = version-needed _ _ _ _ _ _ (c .before .enum-told .given .1) (c .if1 .taken)
 
 enum-known-version : tie.Need-enum-known-version
 enum-known-version c = search needs
@@ -25,7 +25,7 @@ forced-requires : tie.Need-forced-requires
 forced-requires c κs = search needs
 
 returns-2 : tie.Need-returns-2
-returns-2 c = no-version _ _ _ _ _ (c .before .enum-told .given .1) _ (c .if1 .left)
+returns-2 c = no-version _ _ _ _ _ _ (c .before .enum-told .given .1) (c .if1 .left)
 
 returns-3 : tie.Need-returns-3
 returns-3 c =
@@ -37,7 +37,7 @@ returns-3 c =
     let s = c .forced .result in
     let fs : SFits w32 s = search needs in
     let a = b .before .before .args in
-    some-version (a .rose) (a .at) (a .votes) (a .start) (a .version) z r (toZ w32 (ofZ w32 s)) (b .version .given .1)
+    some-version (a .rose) (a .at) (a .votes) (a .start) (a .old) (a .version) z r (toZ w32 (ofZ w32 s)) (b .version .given .1)
     (c .before .risen .ensures ∙ ap (risen (a .rose)) (toZ-ofZ w32 z fz))
     (toZ-ofZ w32 s fs ∙ c .forced .ensures ∙ ap (forced (a .at)) (toZ-ofZ w32 r fr))
 
