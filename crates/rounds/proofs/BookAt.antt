@@ -6,7 +6,7 @@ use Prim.Native.Nat.{ℕ, _+_, _*_, _-_, _<_}
 use native.Mathlib.Omega.{arith}
 use borrow.Author.Tests.{leb-false}
 use lib.Dec.{leb, ltb, eqb}
-use Rattle.rounds.proofs.Tests.{by-test}
+use Rattle.voting.proofs.Laws.Tests.{by-test}
 use Rattle.voting.specs.declared.settings.VotingConfig.{VotingConfig}
 use Rattle.voting.specs.Settings.{votingLength, voteEpochs, activationEpochs, forkLimit}
 use Rattle.rounds.specs.Book.{idle, since, epochsSince, bookAdd, bookRise, bookClose}

@@ -14,7 +14,7 @@ use Rattle.voting.specs.Tally.{headers, whole, seeded, entries, firstCount}
 use Rattle.voting.proofs.Laws.Header.{alike-small}
 use Rattle.voting.proofs.Laws.Tally.{tally-count, tally-none, whole-threes, headers-length, count-most}
 use Rattle.rounds.specs.Epochs.{firstVotes, boundaryVotes, counted}
-use Rattle.rounds.proofs.Tests.{by-test}
+use Rattle.voting.proofs.Laws.Tests.{by-test}
 
 -- 120 is its own id
 id-120 : signedOf 8 120 ≡ pos 120

@@ -24,11 +24,12 @@ use Rattle.voting.specs.Header.{votesIn, negation, ordinaryVote, fault, faultIn
 use Rattle.voting.specs.Tally.{headers, slotEntry, seeded, entry, entries, firstCount}
 use Rattle.voting.specs.ForkCheck.{epochsAfter, between, barred, checkRound, forkRefusal}
 use Rattle.voting.specs.ForkPart.{forkTotal, roundSteps, roundBy, roundFrom, roundAt, storedOr, votesAfter, startAfter, risen, forced, versionAfter, forkAfter}
+use Rattle.voting.proofs.Laws.Header.{first-zero}
 use Rattle.rounds.specs.Epochs.{firstVotes, boundaryVotes, counted}
 use Rattle.rounds.specs.Book.{idle, since}
 use Rattle.rounds.specs.Replay.{Answer, refused, accepted, Replay, run, Lawful}
 use Rattle.rounds.specs.Claim.{Sound, Opening, entriesFor, Promise}
-use Rattle.rounds.proofs.Tests.{both}
+use Rattle.voting.proofs.Laws.Tests.{both}
 use Rattle.rounds.proofs.Promise.{promise}
 
 pub record Record : Type 0 where
@@ -99,11 +100,6 @@ test-zero : (b : Bool) (n : ℕ) → test b (suc n) ≡ 0 → b ≡ true
 unfolding test
 test-zero true n e = refl
 test-zero false n e = absurd (omega arith)
-
-first-zero : (n m : ℕ) → first n m ≡ 0 → (n ≡ 0) × (m ≡ 0)
-unfolding first
-first-zero zero m e = (refl, e)
-first-zero (suc n) m e = absurd (omega arith)
 
 legal : (hs : List (List ℕ)) → illegal hs ≡ 0 → AllLegal hs
 unfolding illegal

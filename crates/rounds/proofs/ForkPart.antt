@@ -20,7 +20,7 @@ use Rattle.voting.specs.ForkPart.{happens, forkTotal, roundSteps, roundBy, roun
 use Rattle.rounds.specs.Epochs.{forcedVersion}
 use Rattle.rounds.specs.Book.{idle, since, bookAdd, bookRise, bookClose, bookOpen}
 use Rattle.rounds.specs.Claim.{entriesFor, Sound}
-use Rattle.rounds.proofs.Tests.{by-test}
+use Rattle.voting.proofs.Laws.Tests.{by-test}
 use Rattle.rounds.proofs.BookAt.{add-at, rise-at, close-at}
 use Rattle.rounds.proofs.Scaled.{eqb-scaled, leb-scaled, ltb-scaled, wrap-small}
 

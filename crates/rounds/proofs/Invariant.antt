@@ -8,7 +8,7 @@ use native.Mathlib.Omega.{arith}
 use native.Mathlib.Nat.{mul-le-mul-left}
 use borrow.Author.Tests.{ltb-true, eqb-true, eqb-false, ne-eqb}
 use lib.Dec.{ltb, eqb}
-use Rattle.rounds.proofs.Tests.{by-test, both}
+use Rattle.voting.proofs.Laws.Tests.{by-test, both}
 use Rattle.voting.specs.declared.settings.VotingConfig.{VotingConfig}
 use Rattle.voting.specs.Settings.{votingLength, voteEpochs, activationEpochs, version2Height, forkLimit}
 use Rattle.rounds.specs.Epochs.{boundaryVotes, counted, forcedVersion}

@@ -1,4 +1,3 @@
-pub mod Tests
 pub mod Scaled
 pub mod BookAt
 pub mod Counted

@@ -6,10 +6,10 @@ use mathlib.Core.List.{List, [], _∷_}
 use Prim.Native.Nat.{ℕ, suc, _+_, _*_, _-_, _<_, _≤_, min}
 use native.Mathlib.Omega.{arith}
 use native.Mathlib.Nat.{mul-pos}
-use borrow.Author.Tests.{ltb-true, ltb-false, leb-true, leb-false, eqb-true, eqb-false, lt-leb}
+use borrow.Author.Tests.{not-true, ltb-true, ltb-false, leb-true, leb-false, eqb-true, eqb-false, lt-leb}
 use lib.Dec.{leb, ltb, eqb}
 use lib.ListN.{length}
-use Rattle.rounds.proofs.Tests.{by-test, both, neither, not-true′, or-elim}
+use Rattle.voting.proofs.Laws.Tests.{by-test, both, neither, or-elim}
 use Rattle.voting.specs.declared.settings.VotingConfig.{VotingConfig}
 use Rattle.voting.specs.Settings.{votingLength, voteEpochs, activationEpochs, forkLimit}
 use Rattle.rounds.specs.Epochs.{boundaryVotes, counted}
@@ -140,7 +140,7 @@ module _ (g : VotingConfig) (sound : Sound g) (S : ℕ) where
       let is = eqb-true j (voteEpochs g + 1) (both (eqb j (voteEpochs g + 1)) _ a .0) in
       let gt : voteEpochs g < j = omega arith in
       let low : ltb (forkLimit g) n ≡ false =
-      rw (plus-late j n p gt) at (not-true′ (ltb (forkLimit g) (plus-at g j n p)) (both (eqb j (voteEpochs g + 1)) _ a .1))
+      rw (plus-late j n p gt) at (not-true (ltb (forkLimit g) (plus-at g j n p)) (both (eqb j (voteEpochs g + 1)) _ a .1))
       in
       rw (sum-late j n (p ∷ es) gt) (simp low (omega arith)))
       (λ b.

@@ -18,7 +18,7 @@ use Rattle.rounds.specs.Claim as All
 use Rattle.rounds.specs.Mainnet as Main
 use Rattle.rounds.specs.Mainnet.{wins, lasts, forced}
 use Rattle.rounds.proofs.Promise.{heights-rise, promise}
-use Rattle.rounds.proofs.Tests.{by-test}
+use Rattle.voting.proofs.Laws.Tests.{by-test}
 
 pub mainnet-sound : Sound mainnet
 unfolding mainnet settingsLarge

@@ -19,7 +19,7 @@ use Rattle.rounds.specs.Epochs.{boundaryVotes, counted, forcedVersion}
 use Rattle.rounds.specs.Book.{Round, idle, since, Book, epochsSince, bookAdd, bookRise, bookClose, bookOpen, bookTake, bookStep, bookRun}
 use Rattle.rounds.specs.Replay.{Answer, refused, accepted, Replay, after, call, run, calls, add-epoch, epochs, Lawful}
 use Rattle.rounds.specs.Claim.{Sound, Opening, firstBook, entriesFor, total, won, span, Boundary, Life, Promise}
-use Rattle.rounds.proofs.Tests.{by-test}
+use Rattle.voting.proofs.Laws.Tests.{by-test}
 use Rattle.rounds.proofs.Scaled.{epoch-is}
 use Rattle.rounds.proofs.BookAt.{add-at, rise-at, close-at}
 use Rattle.rounds.proofs.Invariant.{Open, InvR}

@@ -7,7 +7,7 @@ use native.Mathlib.Nat.{mul-le-mul-left, mul-lt-mul-of-pos-left, mul-div-cancel-
 use borrow.Author.Tests.{ltb-true, ltb-false, leb-true, leb-false, eqb-true, eqb-false, lt-ltb, le-ltb, le-leb, lt-leb, eq-eqb, ne-eqb}
 use lib.Dec.{leb, ltb, eqb}
 use lib.IntN.{pos}
-use Rattle.rounds.proofs.Tests.{by-test}
+use Rattle.voting.proofs.Laws.Tests.{by-test}
 use mir.Syntax.{w32}
 use Rattle.codec.specs.Signed.{wrapped}
 use Rattle.codec.proofs.Laws.Signed.{wraps-to}

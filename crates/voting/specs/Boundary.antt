@@ -29,7 +29,7 @@ unfoldable pub gate : Table → ℕ → Boundary → Boundary
 gate t zero b = b
 gate t (suc n) b = refuses t (suc n)
 
--- entry 9 becomes 30 in a table of version 4 that has none, unless the update that is activated here disables rule 409
+-- whether an entry is a certain number, and whether it is absent
 unfoldable pub isNumber : Value → ℤ → Bool
 isNumber Absent z = false
 isNumber (Number y) z = eqZ y z
@@ -38,6 +38,7 @@ unfoldable pub isAbsent : Value → Bool
 isAbsent Absent = true
 isAbsent (Number y) = false
 
+-- entry 9 becomes 30 in a table of version 4 that has none, unless the update that is activated here disables rule 409
 unfoldable pub withSubblocks : Bool → Table → Table
 withSubblocks disabled t =
     cond (isNumber (lookup t 123) (pos 4) && isAbsent (lookup t 9) && not disabled) (update t 9 (Number (pos 30))) t

@@ -94,7 +94,7 @@ risen rose z = cond rose (wrapped 32 (z +ℤ pos 1)) z
 unfoldable pub forced : Bool → ℤ → ℤ
 forced at z = cond (at && eqZ z (pos 1)) (pos 2) z
 
--- with the entries 121 and 122 that come after it; an absent version is 20 where one of the two needs it, and the old entries stay
+-- the three entries after the boundary, 121 and 122 given; an absent version is 20 where one of the two needs it, and then the old ones stay
 unfoldable pub versionAfter : Bool → Bool → Value → Value → Fork → Value → Forked
 versionAfter rose at votes start old Absent =
     cond (rose || at) (record { refusal = blockVersionAbsent; fork = old }) (record { refusal = 0; fork = forkEntries votes start Absent })

@@ -53,15 +53,7 @@ bytes-of-number (b ∷ bs) h =
     let t : (i : ℕ) → getD bs i 0 < 256 = λ i. h (suc i) in
     rw (digits-div b (bytes-small bs t), mod-eq-of-lt (h 0), above (length bs) b (bigEndian bs), bytes-of-number bs t)
 
--- four bytes, one by one
-pub four : (bs : List ℕ) → length bs ≡ 4 → getD bs 0 0 ∷ getD bs 1 0 ∷ getD bs 2 0 ∷ getD bs 3 0 ∷ [] ≡ bs
-four [] l = absurd (omega arith)
-four (a ∷ []) l = absurd (omega arith)
-four (a ∷ b ∷ []) l = absurd (omega arith)
-four (a ∷ b ∷ c ∷ []) l = absurd (omega arith)
-four (a ∷ b ∷ c ∷ d ∷ []) l = refl
-four (a ∷ b ∷ c ∷ d ∷ e ∷ bs) l = absurd (omega arith)
-
+-- four bytes
 pub four-small : (a b c d : ℕ) → a < 256 → b < 256 → c < 256 → d < 256 → (i : ℕ) → getD (a ∷ b ∷ c ∷ d ∷ []) i 0 < 256
 four-small a b c d ha hb hc hd zero = ha
 four-small a b c d ha hb hc hd (suc zero) = hb

@@ -28,14 +28,6 @@ pub count-three : {A : Type 0} (p : A → Bool) (a b c : A) {x y z : ℕ} → x 
 unfolding count
 count-three p a b c e f g = omega (arith, e, f, g)
 
--- three bytes, one by one
-pub three : (bs : List ℕ) → length bs ≡ 3 → getD bs 0 0 ∷ getD bs 1 0 ∷ getD bs 2 0 ∷ [] ≡ bs
-three [] l = absurd (omega arith)
-three (a ∷ []) l = absurd (omega arith)
-three (a ∷ b ∷ []) l = absurd (omega arith)
-three (a ∷ b ∷ c ∷ []) l = refl
-three (a ∷ b ∷ c ∷ d ∷ bs) l = absurd (omega arith)
-
 -- of all these bytes only v has the id of v
 abbrev pub Alike : ℕ → List ℕ → Type 0
 Alike v = Each (λ b. eqZ (signedOf 8 b) (signedOf 8 v) ≡ eqb v b)
@@ -198,7 +190,7 @@ three-faults all a b c p q s t w =
     rw (fault-cons all a (b ∷ c ∷ []), fault-cons all b (c ∷ []), fault-cons all c [], no-votes all, first-none (cond (eqb c 0) 0 (fault all (signedOf 8 c))), ← p, ← q, ← s, ← t) w
 
 -- Legal headers
-first-zero : (n m : ℕ) → first n m ≡ 0 → (n ≡ 0) × (m ≡ 0)
+pub first-zero : (n m : ℕ) → first n m ≡ 0 → (n ≡ 0) × (m ≡ 0)
 unfolding first
 first-zero zero m e = (refl, e)
 first-zero (suc n) m e = absurd (omega arith)

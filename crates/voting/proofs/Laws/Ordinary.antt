@@ -19,26 +19,19 @@ use Rattle.voting.specs.declared.tally.Entry.{Entry}
 use Rattle.voting.specs.declared.ordinary.Voted.{Voted}
 use Rattle.voting.specs.Table.{lookup, update}
 use Rattle.voting.specs.Ordinary.{parameter, moved, known, passes, stops, onward, counts, writes, approvedVote, voted, ordinaryVotes}
+use Rattle.voting.specs.Boundary.{isAbsent}
+use Rattle.voting.proofs.Laws.Tests.{every}
 use Rattle.voting.proofs.Laws.Table.{lookup-update-same, lookup-update-other, update-keeps, update-length}
 
--- Whether the votes are refused
-unfoldable pub present : Value → Bool
-present Absent = false
-present (Number z) = true
-
--- an entry that does not count, or whose parameter is known and there
+-- Whether the votes are refused: an entry that does not count, or whose parameter is known and there
 unfoldable pub sound : VotingConfig → Table → Entry → Bool
-sound g from e = not (counts g e) || (known (parameter (e .id)) && present (lookup from (parameter (e .id))))
-
-unfoldable pub every : {A : Type 0} → (A → Bool) → List A → Bool
-every p [] = true
-every p (x ∷ xs) = p x && every p xs
+sound g from e = not (counts g e) || (known (parameter (e .id)) && not (isAbsent (lookup from (parameter (e .id)))))
 
 voted-refusal : (g : VotingConfig) (from : Table) (e : Entry) (new : Table) → eqb (voted g from e new .refusal) 0 ≡ sound g from e
-unfolding voted approvedVote writes sound present
+unfolding voted approvedVote writes sound isAbsent
 voted-refusal g from e new = go (counts g e) (known (parameter (e .id))) (lookup from (parameter (e .id)))
   where
-    go : (b k : Bool) (v : Value) → eqb (cond b (cond k (writes (e .id) new v) (stops new unknownParameter)) (passes new) .refusal) 0 ≡ not b || (k && present v)
+    go : (b k : Bool) (v : Value) → eqb (cond b (cond k (writes (e .id) new v) (stops new unknownParameter)) (passes new) .refusal) 0 ≡ not b || (k && not (isAbsent v))
     go false k v = refl
     go true false v = refl
     go true true Absent = refl

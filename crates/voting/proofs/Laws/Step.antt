@@ -16,28 +16,25 @@ use mir.Val.{bits, Fits, SFits, toZ, ofZ}
 use mir.ValLaws.{pow-bits, toZ-ofZ, toZ-pos}
 use borrow.Author.Tests.{ltb-true, leb-true, lt-ltb}
 use Rattle.voting.specs.Ordinary.{least, greatest, steps, leastOf, greatestOf, fixedStepOf, hundredth, stepSize, raised, lowered, parameter, known}
-use Rattle.voting.proofs.Laws.Tests.{both}
+use Rattle.voting.proofs.Laws.Tests.{both, every}
 
 -- a bound on each number of a list, by one computed test
-abbrev each : ℕ → List ℤ → Bool
-each n [] = true
-each n (z ∷ zs) = leb (mag z) n && each n zs
-
-small : (n : ℕ) (zs : List ℤ) → each n zs ≡ true → (k : ℕ) → mag (getD zs k (pos 0)) ≤ n
+small : (n : ℕ) (zs : List ℤ) → every (λ z. leb (mag z) n) zs ≡ true → (k : ℕ) → mag (getD zs k (pos 0)) ≤ n
+unfolding every
 small n [] t k = omega arith
-small n (z ∷ zs) t zero = leb-true (mag z) n (both (leb (mag z) n) (each n zs) t .0)
-small n (z ∷ zs) t (suc k) = small n zs (both (leb (mag z) n) (each n zs) t .1) k
+small n (z ∷ zs) t zero = leb-true (mag z) n (both (leb (mag z) n) (every (λ y. leb (mag y) n) zs) t .0)
+small n (z ∷ zs) t (suc k) = small n zs (both (leb (mag z) n) (every (λ y. leb (mag y) n) zs) t .1) k
 
 pub greatest-small : (m : ℕ) → mag (greatestOf m) ≤ 1073741823
-unfolding greatestOf
+unfolding greatestOf every
 greatest-small m = small 1073741823 greatest refl (m - 1)
 
 pub least-small : (m : ℕ) → mag (leastOf m) ≤ 1073741823
-unfolding leastOf
+unfolding leastOf every
 least-small m = small 1073741823 least refl (m - 1)
 
 pub step-small : (m : ℕ) → mag (fixedStepOf m) ≤ 25000
-unfolding fixedStepOf
+unfolding fixedStepOf every
 step-small m = small 25000 steps refl (m - 1)
 
 -- a number of one of the lists, read back from its bits

@@ -8,7 +8,8 @@ use mir.ValLaws.{toZ-ofZ}
 use borrow.Author.Needs.{needs}
 use Rattle.codec.specs.BigEndian.{bigEndian, bigEndianBytes}
 use Rattle.codec.specs.Signed.{bitsOf, signedOf}
-use Rattle.codec.proofs.Laws.BigEndian.{four, bytes-back}
+use Rattle.codec.proofs.Laws.Lists.{all-elements}
+use Rattle.codec.proofs.Laws.BigEndian.{bytes-back}
 use Rattle.codec.proofs.big_endian.i32_from_be_bytes.Statement.{statement}
 use Rattle.codec.proofs.big_endian.i32_from_be_bytes.Tie as tie
 
@@ -36,8 +37,8 @@ returns c =
     let l : length bs ≡ 4 = search needs in
     let n = c .before .joined .result in
     let v : toZ w32 (ofZ w32 (c .i32-of .result)) ≡ signedOf 32 n = toZ-ofZ w32 (c .i32-of .result) (search needs) ∙ c .i32-of .ensures in (
-      v ∙ ap (signedOf 32) (c .before .joined .ensures .0 ∙ ap bigEndian (four bs l)),
-      ap (λ (z : ℤ). bigEndianBytes 4 (bitsOf 32 z)) v ∙ bytes-back n (search needs) ∙ c .before .joined .ensures .1 ∙ four bs l,
+      v ∙ ap (signedOf 32) (c .before .joined .ensures .0 ∙ ap bigEndian (all-elements 4 bs l)),
+      ap (λ (z : ℤ). bigEndianBytes 4 (bitsOf 32 z)) v ∙ bytes-back n (search needs) ∙ c .before .joined .ensures .1 ∙ all-elements 4 bs l,
     )
 
 pub i32-from-be-bytes-spec : {M : Type 1} → statement M

@@ -2,7 +2,7 @@
 use mathlib.Core.Path.{_≡_, _∙_, ap}
 use lib.ListN.{length}
 use Rattle.voting.specs.Header.{checkHeaderVotes}
-use Rattle.voting.proofs.Laws.Header.{three}
+use Rattle.codec.proofs.Laws.Lists.{all-elements}
 use borrow.Author.Needs.{needs}
 use Rattle.voting.proofs.header.check_header_votes.Statement.{statement}
 use Rattle.voting.proofs.header.check_header_votes.Tie as tie
@@ -23,7 +23,7 @@ returns : tie.Need-returns
 returns c =
     let bs = c .before .args .t1 in
     let l : length bs ≡ 3 = search needs in
-    c .check-votes .ensures ∙ ap checkHeaderVotes (three bs l)
+    c .check-votes .ensures ∙ ap checkHeaderVotes (all-elements 3 bs l)
 
 pub check-header-votes-spec : {M : Type 1} → statement M
 check-header-votes-spec =

@@ -3,7 +3,7 @@ use mathlib.Core.Path.{_≡_, _∙_, ap}
 use lib.Dec.{ltb}
 use lib.ListN.{length}
 use Rattle.voting.specs.Header.{votesFor}
-use Rattle.voting.proofs.Laws.Header.{three}
+use Rattle.codec.proofs.Laws.Lists.{all-elements}
 use borrow.Author.Needs.{needs}
 use Rattle.voting.proofs.header.votes_for.Statement.{statement}
 use Rattle.voting.proofs.header.votes_for.Tie as tie
@@ -25,7 +25,7 @@ unfolding votesFor
 returns c =
     let bs = c .before .args .t2 in
     let l : length bs ≡ 3 = search needs in
-    ap (ltb 0) (c .times .ensures) ∙ ap (votesFor (c .before .args .vote)) (three bs l)
+    ap (ltb 0) (c .times .ensures) ∙ ap (votesFor (c .before .args .vote)) (all-elements 3 bs l)
 
 pub votes-for-spec : {M : Type 1} → statement M
 votes-for-spec =
