@@ -1,6 +1,6 @@
 -- Writing into a lent buffer: the answer, and what the buffer then holds. docs/RULES.md, "Who can be turned away, and by which number".
 -- Assumes nothing.
-use Prim.Native.Nat.{ℕ}
+use Prim.Native.Nat.{ℕ, zero, suc}
 use mathlib.Core.Bool.{cond}
 use mathlib.Core.List.{List, _++_}
 use lib.Dec.{leb}
@@ -23,3 +23,8 @@ outcome (Refused e) cells = refused e cells
 unfoldable pub writes : List ℕ → List ℕ → Outcome
 writes bytes cells =
     cond (leb (length bytes) (length cells)) (wrote (length bytes) (bytes ++ drop (length bytes) cells)) (refused outputShort cells)
+
+-- a refusal that comes before the test of the length, 0 for none
+unfoldable pub writing : ℕ → List ℕ → List ℕ → Outcome
+writing zero bytes cells = writes bytes cells
+writing (suc e) bytes cells = refused (suc e) cells

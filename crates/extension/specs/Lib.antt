@@ -1,0 +1,9 @@
+pub mod Section
+pub mod Body
+pub mod Parameters
+pub mod Mandatory
+pub mod Update
+pub mod Boundary
+pub mod Examples
+pub mod Pack
+pub mod Encode
