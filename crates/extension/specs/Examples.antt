@@ -1,11 +1,10 @@
 -- Examples at the edges of the rules, as one table. docs/RULES.md, "Examples at the edges". The proof of the whole table is in
 -- proofs/Examples.antt: each line is computed from the definitions that the promises cite.
 -- Assumes nothing.
-use Prim.Native.Nat.{ℕ}
 use mathlib.Core.Bool.{true, false}
 use mathlib.Core.Path.{_≡_}
-use mathlib.Core.List.{List, [], _∷_}
-use lib.IntN.{ℤ, pos, negsuc}
+use mathlib.Core.List.{[], _∷_}
+use lib.IntN.{pos, negsuc}
 use Rattle.codec.specs.Rule.{ruleOf}
 use Rattle.voting.specs.Settings.{mainnet, softForkApproved, changeApproved}
 use Rattle.voting.specs.Header.{checkHeaderVotes}

@@ -2,7 +2,7 @@
 -- Assumes nothing.
 use mathlib.Core.Path.{_≡_, refl}
 use mathlib.Core.List.{List, [], _∷_, _++_}
-use Prim.Native.Nat.{ℕ, suc, _+_, _≤_, _<_}
+use Prim.Native.Nat.{ℕ, zero, suc, _+_, _≤_, _<_}
 use native.Mathlib.Nat.{add-zero, zero-add}
 use native.Mathlib.Numerals.{add-one}
 use native.Mathlib.Omega.{arith}
@@ -10,7 +10,7 @@ use borrow.Author.Tests.{lt-leb, le-leb}
 use lib.ListN.{length, drop, getD, set, drop-of-length-le}
 use lib.Seq.{drop-cons, sets, sets-eq, set-out}
 use Rattle.codec.specs.Refusal.{outputShort}
-use Rattle.codec.specs.Output.{wrote, refused, writes}
+use Rattle.codec.specs.Output.{wrote, refused, writes, writing}
 
 -- a run of stores, and then another
 pub sets-append : (a b cells : List ℕ) (at : ℕ) → sets cells at (a ++ b) ≡ sets (sets cells at a) (at + length a) b
@@ -46,3 +46,17 @@ module _ (bytes cells : List ℕ) (n : ℕ) (e : n ≡ length bytes) where
       let h′ : length bytes ≤ length cells = omega arith in
       let h″ : 0 + length bytes ≤ length cells = omega arith in
       rw (q, le-leb _ _ h′, sets-eq bytes cells 0 h″, zero-add, e)
+
+-- a writer's outcome, by a refusal that comes before the test of the length, 0 for none
+module _ (bytes cells : List ℕ) (e : ℕ) where
+  pub writing-stop : (e ≡ 0 → ⊥) → refused e cells ≡ writing e bytes cells
+  unfolding writing
+  writing-stop h = go e h
+    where
+      go : (e : ℕ) → (e ≡ 0 → ⊥) → refused e cells ≡ writing e bytes cells
+      go zero h = absurd (h refl)
+      go (suc e) h = refl
+
+  pub writing-go : e ≡ 0 → writing e bytes cells ≡ writes bytes cells
+  unfolding writing
+  writing-go q = rw q

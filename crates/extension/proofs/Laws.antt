@@ -1,0 +1,10 @@
+pub mod Section
+pub mod Body
+pub mod Parameters
+pub mod Mandatory
+pub mod Update
+pub mod Boundary
+pub mod Pack
+pub mod PackTrip
+pub mod Encode
+pub mod EncodeTrip

@@ -1,0 +1,629 @@
+-- What was encoded is read back, and an update in shortest form is what the writer gives.
+-- Assumes nothing.
+use mathlib.Core.Path.{_≡_, refl, ap, sym, _∙_, subst, subst⁻¹}
+use mathlib.Core.Bool.{Bool, true, false, cond}
+use mathlib.Core.List.{List, [], _∷_, _++_, append-nil, append-assoc}
+use Prim.Native.Nat.{ℕ, zero, suc, _+_, _-_, _%_, _^_, _≤_, _<_}
+use native.Mathlib.Nat.{add-zero}
+use native.Mathlib.Omega.{arith}
+use borrow.Author.Tests.{lt-ltb, le-ltb, ltb-false, ne-eqb, eqb-true, eqb-false}
+use lib.Dec.{ltb, eqb}
+use lib.IntN.{ℤ, pos, negsuc}
+use lib.Signed.{ltZ}
+use lib.ListN.{length, take, drop, getD, length-append, length-drop}
+use native.Mathlib.Numerals.{add-one}
+use lib.Seq.{drop-drop, drop-append-seam, take-append-seam, getD-drop, take-add, take-all, drop-cons}
+use mir.Syntax.{w16}
+use Rattle.codec.specs.Vlq.{vlqAt, vlqBytes}
+use Rattle.codec.specs.Rule.{ruleOf}
+use Rattle.codec.specs.Signed.{modulo, bitsOf, signedOf, wrapped}
+use Rattle.codec.specs.Refusal.{updateUnreadable, mandatoryDisabled, inputLong}
+use Rattle.codec.specs.declared.vlq.Number.{Number}
+use Rattle.codec.specs.declared.vlq.Read.{Read}
+use Rattle.codec.specs.declared.vlq.Read.the-variants.{Value, Unreadable}
+use Rattle.codec.proofs.Laws.Signed.{wraps-to}
+use Rattle.codec.proofs.Laws.VlqTrip.{written-read-at, read-inside, Inside}
+use Rattle.voting.specs.Common.{Each}
+use Rattle.voting.proofs.Laws.Tests.{neither}
+use Rattle.extension.specs.declared.section.Section.{Section}
+use Rattle.extension.specs.declared.section.Parsed.{Parsed}
+use Rattle.extension.specs.declared.update.StatusAt.{StatusAt}
+use Rattle.extension.specs.declared.update.StatusAt.the-variants.{HasStatus, NoStatus}
+use Rattle.extension.specs.declared.update.Update.{Update}
+use Rattle.extension.specs.declared.update.ParsedUpdate.{ParsedUpdate}
+use Rattle.extension.specs.Section.{Reading, got, bad, Listing, done, item, after, listing, items, closed, section, sectionItems, part, any}
+use Rattle.extension.specs.Mandatory.{mandatoryRule}
+use Rattle.extension.specs.Update.{Status, placedRule, ruleAt, ruleReading, readRule, placedStatus, offsetThen, statusAt, statusReading, readStatus, countIn, itemsFrom, noUpdate, refusedUpdate, withStatuses, withRules, updateOf, rulesIn, statusesIn}
+use Rattle.extension.specs.Encode.{offsetOf, rulesBytes, statusBytes, statusesBytes, encoded, statusList, lowRule, sum, encodeRefusal, EncodedAgain, idsOf, codesOf, sizesOf, rawOf, Short, nextOf, endOf, ShortRules, ShortStatuses, ShortUpdate, UpdateBack, UpdateAgain}
+use Rattle.extension.proofs.Laws.Section.{part-length}
+use Rattle.extension.proofs.Laws.Encode.{status-length, agreed, statuses-count, none-refused, accepted}
+
+-- after what stands at a position
+pub drop-past : (at : ℕ) (s a t : List ℕ) → drop at s ≡ a ++ t → drop (at + length a) s ≡ t
+drop-past at s a t e = sym (drop-drop (length a) at s) ∙ ap (drop (length a)) e ∙ drop-append-seam a t
+
+-- items that were all read, up to an end
+abbrev listed : {A : Type 0} → List A → ℕ → Listing A
+listed [] end = done end
+listed (x ∷ xs) end = item x (listed xs end)
+
+items-listed : {A : Type 0} (xs : List A) (end : ℕ) → items (listed xs end) ≡ xs
+unfolding items
+items-listed [] end = refl
+items-listed {A} (x ∷ xs) end = ap (λ (ys : List A). x ∷ ys) (items-listed xs end)
+
+closed-listed : {A : Type 0} (n begin : ℕ) (xs : List A) (end : ℕ) → closed n begin (listed xs end) ≡ record { refusal = 0; section = section n begin end }
+unfolding closed
+closed-listed n begin [] end = refl
+closed-listed n begin (x ∷ xs) end = closed-listed n begin xs end
+
+-- a count, and then as many items
+counted : {A : Type 0} (read : ℕ → Reading A) (xs : List A) (s t : List ℕ) (at end : ℕ) → length xs ≤ 65536 → drop at s ≡ vlqBytes (length xs) ++ t
+    → listing read (length xs) (at + length (vlqBytes (length xs))) ≡ listed xs end
+    → itemsFrom read (vlqAt 32 s at) ≡ record { refusal = 0; section = section (length xs) (at + length (vlqBytes (length xs))) end }
+unfolding itemsFrom countIn
+counted read xs s t at end h e l =
+    rw (written-read-at 32 (length xs) at s t (omega arith) (omega arith) e, lt-ltb (length xs) (2 ^ 31) (omega arith), l)
+    (closed-listed (length xs) (at + length (vlqBytes (length xs))) xs end)
+
+-- one rule, and rules one after another
+rule-read : (r at : ℕ) (s t : List ℕ) → r < 65536 → drop at s ≡ vlqBytes r ++ t → readRule s at ≡ got r (at + length (vlqBytes r))
+unfolding readRule ruleAt placedRule ruleReading
+rule-read r at s t h e = rw (written-read-at 16 r at s t (omega arith) h e)
+
+rules-listed : (rules : List ℕ) (at : ℕ) (s t : List ℕ) → Each (λ r. r < 65536) rules → drop at s ≡ rulesBytes rules ++ t
+    → listing (readRule s) (length rules) at ≡ listed rules (at + length (rulesBytes rules))
+unfolding listing after rulesBytes
+rules-listed [] at s t h e = ap done (sym (add-zero at))
+rules-listed (r ∷ rules) at s t h e =
+    let e′ : drop at s ≡ vlqBytes r ++ (rulesBytes rules ++ t) = e ∙ append-assoc (vlqBytes r) (rulesBytes rules) t in
+    let ih = rules-listed rules (at + length (vlqBytes r)) s t (h .1) (drop-past at s (vlqBytes r) (rulesBytes rules ++ t) e′) in
+    let l : at + length (vlqBytes r) + length (rulesBytes rules) ≡ at + length (vlqBytes r ++ rulesBytes rules) = omega (arith, length-append (vlqBytes r) (rulesBytes rules)) in
+    rw (rule-read r at s (rulesBytes rules ++ t) (h .0) e′, ← l) (ap (item r) ih)
+
+-- a rule id from 1,000 to 32,767, and at most 65,535 raw bytes
+abbrev pub Writable : Status → Type 0
+Writable x = (lowRule (x .rule) ≡ false) × (ltZ (pos 32767) (x .rule) ≡ false) × (length (x .raw) ≤ 65535)
+
+rule-back : (z : ℤ) → lowRule z ≡ false → ltZ (pos 32767) z ≡ false → (ruleOf (offsetOf z) ≡ z) × (offsetOf z < 65536)
+unfolding lowRule offsetOf ruleOf
+rule-back (pos n) e f =
+    let h : 1000 ≤ n = ltb-false n 1000 e in
+    let k : n ≤ 32767 = ltb-false 32767 n f in
+    let q : n - 1000 + 1000 ≡ n = omega arith in
+    (rw q (wraps-to w16 (pos n) (record { sfits = omega arith })), omega arith)
+rule-back (negsuc n) e f = absurd (let z : _≡_ {A = ℕ} 0 1 = cc in omega arith)
+
+-- a status where the offset and the size were read
+status-at : (rule : ℤ) (code m : ℕ) (raw s t : List ℕ) → drop m s ≡ code ∷ (raw ++ t)
+    → statusReading s (placedStatus s rule (Value (record { value = length raw; next = m }))) ≡ got (record { rule = rule; code = code; raw = raw }) (m + 1 + length raw)
+unfolding placedStatus statusReading
+status-at rule code m raw s t e =
+    let h : m + 1 + length raw ≤ length s = omega (arith, length-drop m s, ap length e, length-append raw t) in
+    let c : getD s m 0 ≡ code = ap (λ (k : ℕ). getD s k 0) (sym (add-zero m)) ∙ sym (getD-drop m s 0 0) ∙ ap (λ (l : List ℕ). getD l 0 0) e in
+    let d : drop (m + 1) s ≡ raw ++ t = drop-past m s (code ∷ []) (raw ++ t) e in
+    let n : m + 1 + length raw - (m + 1) ≡ length raw = omega arith in
+    rw (le-ltb (length s) (m + 1 + length raw) h, c, n, d, take-append-seam raw t)
+
+status-read : (x : Status) (at : ℕ) (s t : List ℕ) → Writable x → drop at s ≡ statusBytes x ++ t → readStatus s at ≡ got x (at + length (statusBytes x))
+unfolding readStatus statusAt offsetThen statusBytes
+status-read x at s t h e =
+    let a = vlqBytes (offsetOf (x .rule)) in
+    let b = vlqBytes (length (x .raw)) in
+    let c = x .code ∷ x .raw in
+    let r = rule-back (x .rule) (h .0) (h .1) in
+    let e₁ : drop at s ≡ a ++ (b ++ (c ++ t)) = e ∙ append-assoc (a ++ b) c t ∙ append-assoc a b (c ++ t) in
+    let e₂ : drop (at + length a) s ≡ b ++ (c ++ t) = drop-past at s a (b ++ (c ++ t)) e₁ in
+    let e₃ : drop (at + length a + length b) s ≡ c ++ t = drop-past (at + length a) s b (c ++ t) e₂ in
+    let l : at + length a + length b + 1 + length (x .raw) ≡ at + length (statusBytes x) = omega (arith, status-length x) in
+    rw (
+      written-read-at 16 (offsetOf (x .rule)) at s (b ++ (c ++ t)) (omega arith) (r .1) e₁,
+      written-read-at 16 (length (x .raw)) (at + length a) s (c ++ t) (omega arith) (omega (arith, h .2)) e₂,
+      r .0,
+      ← l,
+    )
+    (status-at (x .rule) (x .code) (at + length a + length b) (x .raw) s t e₃)
+
+statuses-listed : (xs : List Status) (at : ℕ) (s t : List ℕ) → Each Writable xs → drop at s ≡ statusesBytes xs ++ t
+    → listing (readStatus s) (length xs) at ≡ listed xs (at + length (statusesBytes xs))
+unfolding listing after statusesBytes
+statuses-listed [] at s t h e = ap done (sym (add-zero at))
+statuses-listed (x ∷ xs) at s t h e =
+    let e′ : drop at s ≡ statusBytes x ++ (statusesBytes xs ++ t) = e ∙ append-assoc (statusBytes x) (statusesBytes xs) t in
+    let ih = statuses-listed xs (at + length (statusBytes x)) s t (h .1) (drop-past at s (statusBytes x) (statusesBytes xs ++ t) e′) in
+    let l : at + length (statusBytes x) + length (statusesBytes xs) ≡ at + length (statusBytes x ++ statusesBytes xs) = omega (arith, length-append (statusBytes x) (statusesBytes xs)) in
+    rw (status-read x at s (statusesBytes xs ++ t) (h .0) e′, ← l) (ap (item x) ih)
+
+-- the whole update
+module _ (rules : List ℕ) (statuses : List Status) (small : Each (λ r. r < 65536) rules) (few : length rules ≤ 65536) (fit : Each Writable statuses) (few′ : length statuses ≤ 65536) where
+  abbrev s : List ℕ
+  s = encoded rules statuses
+
+  abbrev b₁ : ℕ
+  b₁ = 0 + length (vlqBytes (length rules))
+
+  abbrev e₁ : ℕ
+  e₁ = b₁ + length (rulesBytes rules)
+
+  abbrev b₂ : ℕ
+  b₂ = e₁ + length (vlqBytes (length statuses))
+
+  abbrev e₂ : ℕ
+  e₂ = b₂ + length (statusesBytes statuses)
+
+  at-start : s ≡ vlqBytes (length rules) ++ (rulesBytes rules ++ (vlqBytes (length statuses) ++ (statusesBytes statuses ++ [])))
+  unfolding encoded
+  at-start =
+      let a = vlqBytes (length rules) in
+      let b = rulesBytes rules in
+      let c = vlqBytes (length statuses) in
+      rw (append-nil (statusesBytes statuses)) (append-assoc (a ++ b) c (statusesBytes statuses) ∙ append-assoc a b (c ++ statusesBytes statuses))
+
+  at-rules : drop b₁ s ≡ rulesBytes rules ++ (vlqBytes (length statuses) ++ (statusesBytes statuses ++ []))
+  at-rules = drop-past 0 s (vlqBytes (length rules)) (rulesBytes rules ++ (vlqBytes (length statuses) ++ (statusesBytes statuses ++ []))) at-start
+
+  at-count : drop e₁ s ≡ vlqBytes (length statuses) ++ (statusesBytes statuses ++ [])
+  at-count = drop-past b₁ s (rulesBytes rules) (vlqBytes (length statuses) ++ (statusesBytes statuses ++ [])) at-rules
+
+  at-statuses : drop b₂ s ≡ statusesBytes statuses ++ []
+  at-statuses = drop-past e₁ s (vlqBytes (length statuses)) (statusesBytes statuses ++ []) at-count
+
+  rules-are : listing (readRule s) (length rules) b₁ ≡ listed rules e₁
+  rules-are = rules-listed rules b₁ s (vlqBytes (length statuses) ++ (statusesBytes statuses ++ [])) small at-rules
+
+  statuses-are : listing (readStatus s) (length statuses) b₂ ≡ listed statuses e₂
+  statuses-are = statuses-listed statuses b₂ s [] fit at-statuses
+
+  not-empty : 0 < length s
+  not-empty =
+      let i = read-inside 32 0 s _ (sym (written-read-at 32 (length rules) 0 s (rulesBytes rules ++ (vlqBytes (length statuses) ++ (statusesBytes statuses ++ []))) (omega arith) (omega arith) at-start)) in
+      omega (arith, i .after, i .inside)
+
+  abbrev u : Update
+  u = record { rules = section (length rules) b₁ e₁; statuses = section (length statuses) b₂ e₂ }
+
+  read-rules : rulesIn s u ≡ rules
+  unfolding rulesIn sectionItems
+  read-rules = ap items rules-are ∙ items-listed rules e₁
+
+  read-statuses : statusesIn s u ≡ statuses
+  unfolding statusesIn sectionItems
+  read-statuses = ap items statuses-are ∙ items-listed statuses e₂
+
+  read-update : length s ≤ 65536 → any mandatoryRule rules ≡ false → updateOf s ≡ record { refusal = 0; update = u }
+  unfolding updateOf withRules withStatuses rulesIn
+  read-update h m =
+      rw (
+        le-ltb 65536 (length s) h,
+        ne-eqb (length s) 0 (λ z. omega (arith, not-empty, z)),
+        counted (readRule s) rules s (rulesBytes rules ++ (vlqBytes (length statuses) ++ (statusesBytes statuses ++ []))) 0 e₁ few at-start rules-are,
+        ap (any mandatoryRule) read-rules,
+        m,
+        counted (readStatus s) statuses s (statusesBytes statuses ++ []) e₁ e₂ few′ at-count statuses-are,
+      )
+
+  pub encoded-again : EncodedAgain rules statuses
+  encoded-again h m =
+      record {
+        parsed = ap (λ (p : ParsedUpdate). p .refusal) (read-update h m);
+        same-rules = ap (λ (p : ParsedUpdate). rulesIn s (p .update)) (read-update h m) ∙ read-rules;
+        same-statuses = ap (λ (p : ParsedUpdate). statusesIn s (p .update)) (read-update h m) ∙ read-statuses;
+      }
+
+-- what the writer's types and tests say of its rules and statuses
+each-small : (xs : List ℕ) → ((i : ℕ) → getD xs i 0 < 65536) → Each (λ r. r < 65536) xs
+each-small [] h = tt
+each-small (x ∷ xs) h = (h 0, each-small xs (λ i. h (suc i)))
+
+take-most : (n : ℕ) (xs : List ℕ) → length (take n xs) ≤ n
+take-most zero xs = omega arith
+take-most (suc n) [] = omega arith
+take-most (suc n) (x ∷ xs) = omega (arith, take-most n xs)
+
+statuses-fit : (ids : List ℤ) (codes sizes raw : List ℕ) → any lowRule ids ≡ false → any (ltZ (pos 32767)) ids ≡ false → any (ltb 65535) sizes ≡ false
+    → Each Writable (statusList ids codes sizes raw)
+unfolding statusList any
+statuses-fit [] codes sizes raw l h k = tt
+statuses-fit (i ∷ ids) [] sizes raw l h k = tt
+statuses-fit (i ∷ ids) (c ∷ codes) [] raw l h k = tt
+statuses-fit (i ∷ ids) (c ∷ codes) (n ∷ sizes) raw l h k =
+    let l′ = neither (lowRule i) (any lowRule ids) l in
+    let h′ = neither (ltZ (pos 32767) i) (any (ltZ (pos 32767)) ids) h in
+    let k′ = neither (ltb 65535 n) (any (ltb 65535) sizes) k in
+    ((l′ .0, h′ .0, omega (arith, take-most n raw, ltb-false 65535 n (k′ .0))), statuses-fit ids codes sizes (drop n raw) (l′ .1) (h′ .1) (k′ .1))
+
+pub rules-back : (rules : List ℕ) → ((i : ℕ) → getD rules i 0 < 65536) → length rules ≤ 65536 → EncodedAgain rules []
+rules-back rules small h = encoded-again rules [] (each-small rules small) h tt (omega arith)
+
+pub update-back : (rules : List ℕ) (ids : List ℤ) (codes sizes raw : List ℕ) → ((i : ℕ) → getD rules i 0 < 65536)
+    → {e : ℕ} → e ≡ encodeRefusal rules ids codes sizes raw → (e ≡ 0 → any (ltZ (pos 32767)) ids ≡ false)
+    → encodeRefusal rules ids codes sizes raw ≡ 0 → EncodedAgain rules (statusList ids codes sizes raw)
+update-back rules ids codes sizes raw small q fit z =
+    let g = accepted rules ids codes sizes raw q (q ∙ z) in
+    let a = agreed ids codes sizes raw (g .agrees) in
+    encoded-again rules (statusList ids codes sizes raw) (each-small rules small) (g .few-rules)
+    (statuses-fit ids codes sizes raw (g .none-low) (fit (q ∙ z)) (g .none-large))
+    (omega (arith, statuses-count ids codes sizes raw (a .0) (a .1), g .few-ids))
+
+-- The other way: an update in shortest form is what the writer gives. First the bytes between positions
+part-none : (s : List ℕ) (at : ℕ) → part s at at ≡ []
+part-none s at = let e : at - at ≡ 0 = omega arith in rw e
+
+part-join : (s : List ℕ) (a b c : ℕ) → a ≤ b → b ≤ c → part s a b ++ part s b c ≡ part s a c
+part-join s a b c h k =
+    let e : c - a ≡ b - a + (c - b) = omega arith in
+    let d : a + (b - a) ≡ b = omega arith in
+    sym (ap (λ (n : ℕ). take n (drop a s)) e ∙ take-add (b - a) (c - b) (drop a s) ∙ ap (λ (t : List ℕ). part s a b ++ take (c - b) t) (drop-drop (b - a) a s ∙ ap (λ (n : ℕ). drop n s) d))
+
+part-all : (s : List ℕ) (end : ℕ) → end ≡ length s → part s 0 end ≡ s
+part-all s end e = take-all (end - 0) s (omega arith)
+
+part-cons : (s : List ℕ) (at n : ℕ) → at < length s → part s at (at + 1 + n) ≡ getD s at 0 ∷ part s (at + 1) (at + 1 + n)
+part-cons s at n h =
+    let e : at + 1 + n - at ≡ suc n = omega arith in
+    let d : at + 1 + n - (at + 1) ≡ n = omega arith in
+    rw (e, d, drop-cons s at 0 h, add-one at)
+
+abbrev next-of : {A : Type 0} → Reading A → ℕ
+next-of (got a next) = next
+next-of (bad e) = 0
+
+abbrev joined : {A : Type 0} → (A → List ℕ) → List A → List ℕ
+joined bytes [] = []
+joined bytes (x ∷ xs) = bytes x ++ joined bytes xs
+
+-- items whose bytes stand where they were read: what a reader answers at a position, and then at the next
+module _ {A : Type 0} (s : List ℕ) (read : ℕ → Reading A) (bytes : A → List ℕ) (Plain Fine : A → Type 0) where
+  abbrev Stands : ℕ → Reading A → Type 0
+  Stands at (got a next) = (Plain a → part s at next ≡ bytes a) × (at < next) × (next ≤ length s) × Fine a
+  Stands at (bad e) = e ≡ 0 → ⊥
+
+  abbrev pub Chain : ℕ → ℕ → Type 0
+  Chain zero at = Unit {0}
+  Chain (suc n) at = Stands at (read at) × Chain n (next-of (read at))
+
+  module _ (n₀ b₀ : ℕ) where
+    record AllRead (n at : ℕ) (l : Listing A) : Type 0 where
+      end : ℕ
+      is : closed n₀ b₀ l ≡ record { refusal = 0; section = section n₀ b₀ end }
+      many : length (items l) ≡ n
+      least : at + n ≤ end
+      within : end ≤ length s
+      bytes-are : Each Plain (items l) → part s at end ≡ joined bytes (items l)
+      fine : Each Fine (items l)
+
+    all-read : (n at : ℕ) → at ≤ length s → Chain n at → closed n₀ b₀ (listing read n at) .refusal ≡ 0 → AllRead n at (listing read n at)
+    unfolding listing after closed items
+    all-read zero at h c e = record { end = at; is = refl; many = refl; least = omega arith; within = h; bytes-are = λ p. part-none s at; fine = tt }
+    all-read (suc n) at h c e = go (read at) c e (λ k i d f. all-read n k i d f)
+      where
+        go : (g : Reading A) → Stands at g × Chain n (next-of g) → closed n₀ b₀ (after g (listing read n)) .refusal ≡ 0
+            → ((k : ℕ) → k ≤ length s → Chain n k → closed n₀ b₀ (listing read n k) .refusal ≡ 0 → AllRead n k (listing read n k)) → AllRead (suc n) at (after g (listing read n))
+        go (got a next) c e more =
+            let r = more next (c .0 .2) (c .1) e in
+            record {
+              end = r .end;
+              is = r .is;
+              many = ap suc (r .many);
+              least = omega (arith, c .0 .1, r .least);
+              within = r .within;
+              bytes-are = λ p. sym (part-join s at next (r .end) (omega (arith, c .0 .1)) (omega (arith, r .least))) ∙ rw (c .0 .0 (p .0), r .bytes-are (p .1));
+              fine = (c .0 .3, r .fine);
+            }
+        go (bad m) c e more = absurd (c .0 e)
+
+-- a reader whose refusals have numbers other than 0: what a section says that was read without a refusal
+abbrev Stops : {A : Type 0} → Reading A → Type 0
+Stops (got a next) = Unit {0}
+Stops (bad e) = e ≡ 0 → ⊥
+
+module _ {A : Type 0} (read : ℕ → Reading A) (stops : (at : ℕ) → Stops (read at)) where
+  ends : (n₀ b₀ n at : ℕ) → closed n₀ b₀ (listing read n at) .refusal ≡ 0
+      → closed n₀ b₀ (listing read n at) ≡ record { refusal = 0; section = section n₀ b₀ (closed n₀ b₀ (listing read n at) .section .end) }
+  unfolding listing after closed
+  ends n₀ b₀ zero at e = refl
+  ends n₀ b₀ (suc n) at e = go (read at) (stops at) e (λ k f. ends n₀ b₀ n k f)
+    where
+      go : (g : Reading A) → Stops g → closed n₀ b₀ (after g (listing read n)) .refusal ≡ 0
+          → ((k : ℕ) → closed n₀ b₀ (listing read n k) .refusal ≡ 0 → closed n₀ b₀ (listing read n k) ≡ record { refusal = 0; section = section n₀ b₀ (closed n₀ b₀ (listing read n k) .section .end) })
+          → closed n₀ b₀ (after g (listing read n)) ≡ record { refusal = 0; section = section n₀ b₀ (closed n₀ b₀ (after g (listing read n)) .section .end) }
+      go (got a next) t e more = more next e
+      go (bad m) t e more = absurd (t e)
+
+  record ItemsRead (x : Read) : Type 0 where
+    number : Number
+    value-is : x ≡ Value number
+    closed-is : closed (countIn (number .value)) (number .next) (listing read (countIn (number .value)) (number .next))
+        ≡ record { refusal = 0; section = section (countIn (number .value)) (number .next) (itemsFrom read x .section .end) }
+    section-is : itemsFrom read x .section ≡ section (countIn (number .value)) (number .next) (itemsFrom read x .section .end)
+
+  items-read : (x : Read) → itemsFrom read x .refusal ≡ 0 → ItemsRead x
+  unfolding itemsFrom
+  items-read (Value m) e =
+      let c = ends (countIn (m .value)) (m .next) (countIn (m .value)) (m .next) e in
+      record { number = m; value-is = refl; closed-is = c; section-is = ap (λ (p : Parsed). p .section) c }
+  items-read Unreadable e = absurd (omega arith)
+
+rule-stops : (s : List ℕ) (at : ℕ) → Stops (readRule s at)
+unfolding readRule ruleAt placedRule ruleReading
+rule-stops s at = go (vlqAt 16 s at)
+  where
+    go : (x : Read) → Stops (ruleReading (placedRule x))
+    go (Value m) = tt
+    go Unreadable = λ e. omega arith
+
+status-stops : (s : List ℕ) (at : ℕ) → Stops (readStatus s at)
+unfolding readStatus statusAt offsetThen placedStatus statusReading
+status-stops s at = go (vlqAt 16 s at)
+  where
+    cut : (rule : ℤ) (k : Number) (b : Bool) → Stops (statusReading s (cond b (NoStatus updateUnreadable)
+        (HasStatus (record { rule = record { 0 = rule }; code = getD s (k .next) 0; start = k .next + 1; end = k .next + 1 + k .value }))))
+    cut rule k true = λ e. omega arith
+    cut rule k false = tt
+
+    size : (rule : ℤ) (y : Read) → Stops (statusReading s (placedStatus s rule y))
+    size rule (Value k) = cut rule k (ltb (length s) (k .next + 1 + k .value))
+    size rule Unreadable = λ e. omega arith
+
+    go : (x : Read) → Stops (statusReading s (offsetThen s x))
+    go (Value m) = size (ruleOf (m .value)) (vlqAt 16 s (m .next))
+    go Unreadable = λ e. omega arith
+
+-- the parts of an update that was read without a refusal
+module _ (s : List ℕ) where
+  rules-then : (x : Parsed) → withRules s x .refusal ≡ 0
+      → (x .refusal ≡ 0) × (itemsFrom (readStatus s) (vlqAt 32 s (x .section .end)) .refusal ≡ 0)
+      × (withRules s x .update ≡ record { rules = x .section; statuses = itemsFrom (readStatus s) (vlqAt 32 s (x .section .end)) .section })
+  unfolding withRules withStatuses
+  rules-then x = go (eqb (x .refusal) 0) (any mandatoryRule (sectionItems (readRule s) (x .section))) (itemsFrom (readStatus s) (vlqAt 32 s (x .section .end))) refl
+    where
+      last : (y : Parsed) (d : Bool) → eqb (y .refusal) 0 ≡ d → cond d (record { refusal = 0; update = record { rules = x .section; statuses = y .section } }) (refusedUpdate (y .refusal)) .refusal ≡ 0
+          → (y .refusal ≡ 0) × (cond d (record { refusal = 0; update = record { rules = x .section; statuses = y .section } }) (refusedUpdate (y .refusal)) .update ≡ record { rules = x .section; statuses = y .section })
+      last y true q e = (eqb-true (y .refusal) 0 q, refl)
+      last y false q e = absurd (eqb-false (y .refusal) 0 q e)
+
+      go : (a b : Bool) (y : Parsed) → eqb (x .refusal) 0 ≡ a → cond a (cond b (refusedUpdate mandatoryDisabled) (withStatuses (x .section) y)) (refusedUpdate (x .refusal)) .refusal ≡ 0
+          → (x .refusal ≡ 0) × (y .refusal ≡ 0) × (cond a (cond b (refusedUpdate mandatoryDisabled) (withStatuses (x .section) y)) (refusedUpdate (x .refusal)) .update ≡ record { rules = x .section; statuses = y .section })
+      go true true y p e = absurd (omega arith)
+      go true false y p e = let l = last y (eqb (y .refusal) 0) refl e in (eqb-true (x .refusal) 0 p, l .0, l .1)
+      go false b y p e = absurd (eqb-false (x .refusal) 0 p e)
+
+-- rules in shortest form stand where they were read
+abbrev Any : {A : Type 0} → A → Type 0
+Any x = Unit {0}
+
+each-any : {A : Type 0} (xs : List A) → Each Any xs
+each-any [] = tt
+each-any (x ∷ xs) = (tt, each-any xs)
+
+rules-chain : (s : List ℕ) (n at : ℕ) → ShortRules n s at → Chain s (readRule s) vlqBytes Any Any n at
+unfolding readRule ruleAt placedRule ruleReading
+rules-chain s zero at h = tt
+rules-chain s (suc n) at h = go (vlqAt 16 s at) refl h (λ k g. rules-chain s n k g)
+  where
+    go : (x : Read) → x ≡ vlqAt 16 s at → Short s at x × ShortRules n s (nextOf x) → ((k : ℕ) → ShortRules n s k → Chain s (readRule s) vlqBytes Any Any n k)
+        → Stands s (readRule s) vlqBytes Any Any at (ruleReading (placedRule x)) × Chain s (readRule s) vlqBytes Any Any n (next-of (ruleReading (placedRule x)))
+    go (Value m) q h more = let i = read-inside 16 at s m q in ((λ p. h .0, i .after, i .inside, tt), more (m .next) (h .1))
+    go Unreadable q h more = ((λ e. omega arith), more 0 (h .1))
+
+rules-joined : (rules : List ℕ) → joined vlqBytes rules ≡ rulesBytes rules
+unfolding rulesBytes
+rules-joined [] = refl
+rules-joined (r ∷ rules) = ap (λ (t : List ℕ). vlqBytes r ++ t) (rules-joined rules)
+
+-- statuses in shortest form too, where the rule id is not low
+abbrev Plain : Status → Type 0
+Plain x = lowRule (x .rule) ≡ false
+
+abbrev Fine : Status → Type 0
+Fine x = length (x .raw) ≤ 65535
+
+each-plain : (xs : List Status) → any lowRule (idsOf xs) ≡ false → Each Plain xs
+unfolding any idsOf
+each-plain [] h = tt
+each-plain (x ∷ xs) h = let p = neither (lowRule (x .rule)) (any lowRule (idsOf xs)) h in (p .0, each-plain xs (p .1))
+
+offset-back : (v : ℕ) → v < 65536 → lowRule (ruleOf v) ≡ false → offsetOf (ruleOf v) ≡ v
+unfolding lowRule ruleOf wrapped bitsOf modulo signedOf offsetOf
+offset-back v h = go (ltb ((v + 1000) % 65536) 32768)
+  where
+    go : (t : Bool) → ltZ (cond t (pos ((v + 1000) % 65536)) (negsuc (65536 - suc ((v + 1000) % 65536)))) (pos 1000) ≡ false
+        → offsetOf (cond t (pos ((v + 1000) % 65536)) (negsuc (65536 - suc ((v + 1000) % 65536)))) ≡ v
+    go true e = omega (arith, ltb-false ((v + 1000) % 65536) 1000 e)
+    go false e = absurd (let z : _≡_ {A = ℕ} 0 1 = cc in omega arith)
+
+status-stands : (s : List ℕ) (at : ℕ) (m k : Number) → Inside 16 (length s) at m → Inside 16 (length s) (m .next) k
+    → part s at (m .next) ≡ vlqBytes (m .value) → part s (m .next) (k .next) ≡ vlqBytes (k .value) → k .next + 1 + k .value ≤ length s → lowRule (ruleOf (m .value)) ≡ false
+    → part s at (k .next + 1 + k .value) ≡ statusBytes (record { rule = ruleOf (m .value); code = getD s (k .next) 0; raw = part s (k .next + 1) (k .next + 1 + k .value) })
+unfolding statusBytes
+status-stands s at m k i j p q h low =
+    let end = k .next + 1 + k .value in
+    let l : length (part s (k .next + 1) end) ≡ k .value = part-length s (k .next + 1) end h ∙ omega arith in
+    let o : offsetOf (ruleOf (m .value)) ≡ m .value = offset-back (m .value) (i .value-fits) low in
+    let c = part-cons s (k .next) (k .value) (omega arith) in
+    rw (o, l, ← p, ← q, ← c, part-join s at (m .next) (k .next) (omega (arith, i .after)) (omega (arith, j .after)))
+    (sym (part-join s at (k .next) end (omega (arith, i .after, j .after)) (omega arith)))
+
+statuses-chain : (s : List ℕ) (n at : ℕ) → ShortStatuses n s at → Chain s (readStatus s) statusBytes Plain Fine n at
+unfolding readStatus statusAt offsetThen placedStatus statusReading
+statuses-chain s zero at h = tt
+statuses-chain s (suc n) at h = go (vlqAt 16 s at) refl (h .0) (h .1) (h .2) (λ k g. statuses-chain s n k g)
+  where
+    Next : StatusAt → Type 0
+    Next x = Stands s (readStatus s) statusBytes Plain Fine at (statusReading s x) × Chain s (readStatus s) statusBytes Plain Fine n (next-of (statusReading s x))
+
+    cut : (m k : Number) (b : Bool) → ltb (length s) (k .next + 1 + k .value) ≡ b → Inside 16 (length s) at m → Inside 16 (length s) (m .next) k
+        → part s at (m .next) ≡ vlqBytes (m .value) → part s (m .next) (k .next) ≡ vlqBytes (k .value)
+        → ShortStatuses n s (endOf (cond b (NoStatus updateUnreadable)
+        (HasStatus (record { rule = record { 0 = ruleOf (m .value) }; code = getD s (k .next) 0; start = k .next + 1; end = k .next + 1 + k .value }))))
+        → ((a : ℕ) → ShortStatuses n s a → Chain s (readStatus s) statusBytes Plain Fine n a)
+        → Next (cond b (NoStatus updateUnreadable) (HasStatus (record { rule = record { 0 = ruleOf (m .value) }; code = getD s (k .next) 0; start = k .next + 1; end = k .next + 1 + k .value })))
+    cut m k true t i j p q h more = ((λ e. omega arith), more 0 h)
+    cut m k false t i j p q h more =
+        let inside : k .next + 1 + k .value ≤ length s = ltb-false (length s) (k .next + 1 + k .value) t in (
+          (
+            status-stands s at m k i j p q inside,
+            omega (arith, i .after, j .after),
+            inside,
+            omega (arith, part-length s (k .next + 1) (k .next + 1 + k .value) inside, j .value-fits),
+          ),
+          more (k .next + 1 + k .value) h,
+        )
+
+    size : (m : Number) (y : Read) → y ≡ vlqAt 16 s (m .next) → Inside 16 (length s) at m → part s at (m .next) ≡ vlqBytes (m .value) → Short s (m .next) y
+        → ShortStatuses n s (endOf (placedStatus s (ruleOf (m .value)) y)) → ((a : ℕ) → ShortStatuses n s a → Chain s (readStatus s) statusBytes Plain Fine n a)
+        → Next (placedStatus s (ruleOf (m .value)) y)
+    size m (Value k) e i p q h more = cut m k (ltb (length s) (k .next + 1 + k .value)) refl i (read-inside 16 (m .next) s k e) p q h more
+    size m Unreadable e i p q h more = ((λ e. omega arith), more 0 h)
+
+    go : (x : Read) → x ≡ vlqAt 16 s at → Short s at x → Short s (nextOf x) (vlqAt 16 s (nextOf x)) → ShortStatuses n s (endOf (offsetThen s x))
+        → ((a : ℕ) → ShortStatuses n s a → Chain s (readStatus s) statusBytes Plain Fine n a) → Next (offsetThen s x)
+    go (Value m) e p q h more = size m (vlqAt 16 s (m .next)) refl (read-inside 16 at s m e) p q h more
+    go Unreadable e p q h more = ((λ e. omega arith), more 0 h)
+
+statuses-joined : (xs : List Status) → joined statusBytes xs ≡ statusesBytes xs
+unfolding statusesBytes
+statuses-joined [] = refl
+statuses-joined (x ∷ xs) = ap (λ (t : List ℕ). statusBytes x ++ t) (statuses-joined xs)
+
+-- statuses taken apart and put together again
+taken-apart : (xs : List Status) → (length (idsOf xs) ≡ length xs) × (length (codesOf xs) ≡ length xs) × (length (sizesOf xs) ≡ length xs) × (sum (sizesOf xs) ≡ length (rawOf xs))
+unfolding idsOf codesOf sizesOf rawOf sum
+taken-apart [] = (refl, refl, refl, refl)
+taken-apart (x ∷ xs) =
+    let t = taken-apart xs in
+    (ap suc (t .0), ap suc (t .1), ap suc (t .2), ap (λ (n : ℕ). length (x .raw) + n) (t .3) ∙ sym (length-append (x .raw) (rawOf xs)))
+
+put-together : (xs : List Status) → statusList (idsOf xs) (codesOf xs) (sizesOf xs) (rawOf xs) ≡ xs
+unfolding idsOf codesOf sizesOf rawOf statusList
+put-together [] = refl
+put-together (x ∷ xs) = rw (take-append-seam (x .raw) (rawOf xs), drop-append-seam (x .raw) (rawOf xs)) (ap (λ (ys : List Status). x ∷ ys) (put-together xs))
+
+none-large : (xs : List Status) → Each Fine xs → any (ltb 65535) (sizesOf xs) ≡ false
+unfolding any sizesOf
+none-large [] h = refl
+none-large (x ∷ xs) h = rw (le-ltb 65535 (length (x .raw)) (h .0)) (none-large xs (h .1))
+
+-- the whole update, taken apart
+module _ (s : List ℕ) (m₁ m₂ : Number) (end₁ end₂ : ℕ) where
+  abbrev n₁ : ℕ
+  n₁ = countIn (m₁ .value)
+
+  abbrev n₂ : ℕ
+  n₂ = countIn (m₂ .value)
+
+  abbrev apart : Update
+  apart = record { rules = section n₁ (m₁ .next) end₁; statuses = section n₂ (m₂ .next) end₂ }
+
+  module _ (few : length s ≤ 65536) (q₁ : vlqAt 32 s 0 ≡ Value m₁) (q₂ : vlqAt 32 s end₁ ≡ Value m₂)
+      (c₁ : closed n₁ (m₁ .next) (listing (readRule s) n₁ (m₁ .next)) ≡ record { refusal = 0; section = section n₁ (m₁ .next) end₁ })
+      (c₂ : closed n₂ (m₂ .next) (listing (readStatus s) n₂ (m₂ .next)) ≡ record { refusal = 0; section = section n₂ (m₂ .next) end₂ })
+      (h : ShortUpdate s apart) where
+    i₁ : Inside 32 (length s) 0 m₁
+    i₁ = read-inside 32 0 s m₁ (sym q₁)
+
+    i₂ : Inside 32 (length s) end₁ m₂
+    i₂ = read-inside 32 end₁ s m₂ (sym q₂)
+
+    r₁ : AllRead s (readRule s) vlqBytes Any Any n₁ (m₁ .next) n₁ (m₁ .next) (listing (readRule s) n₁ (m₁ .next))
+    r₁ = all-read s (readRule s) vlqBytes Any Any n₁ (m₁ .next) n₁ (m₁ .next) (i₁ .inside) (rules-chain s n₁ (m₁ .next) (h .rules-short)) (ap (λ (p : Parsed). p .refusal) c₁)
+
+    r₂ : AllRead s (readStatus s) statusBytes Plain Fine n₂ (m₂ .next) n₂ (m₂ .next) (listing (readStatus s) n₂ (m₂ .next))
+    r₂ = all-read s (readStatus s) statusBytes Plain Fine n₂ (m₂ .next) n₂ (m₂ .next) (i₂ .inside) (statuses-chain s n₂ (m₂ .next) (h .statuses-short)) (ap (λ (p : Parsed). p .refusal) c₂)
+
+    end-is₁ : r₁ .end ≡ end₁
+    end-is₁ = ap (λ (p : Parsed). p .section .end) (sym (r₁ .is) ∙ c₁)
+
+    end-is₂ : r₂ .end ≡ end₂
+    end-is₂ = ap (λ (p : Parsed). p .section .end) (sym (r₂ .is) ∙ c₂)
+
+    many₁ : length (rulesIn s apart) ≡ n₁
+    unfolding rulesIn sectionItems
+    many₁ = r₁ .many
+
+    many₂ : length (statusesIn s apart) ≡ n₂
+    unfolding statusesIn sectionItems
+    many₂ = r₂ .many
+
+    bytes₁ : part s (m₁ .next) end₁ ≡ rulesBytes (rulesIn s apart)
+    unfolding rulesIn sectionItems
+    bytes₁ =
+        let l = items (listing (readRule s) n₁ (m₁ .next)) in
+        ap (part s (m₁ .next)) (sym end-is₁) ∙ r₁ .bytes-are (each-any l) ∙ rules-joined l
+
+    bytes₂ : part s (m₂ .next) end₂ ≡ statusesBytes (statusesIn s apart)
+    unfolding statusesIn sectionItems
+    bytes₂ =
+        let l = items (listing (readStatus s) n₂ (m₂ .next)) in
+        ap (part s (m₂ .next)) (sym end-is₂) ∙ r₂ .bytes-are (each-plain l (h .none-low)) ∙ statuses-joined l
+
+    fine₂ : Each Fine (statusesIn s apart)
+    unfolding statusesIn sectionItems
+    fine₂ = r₂ .fine
+
+    same : encoded (rulesIn s apart) (statusesIn s apart) ≡ s
+    unfolding encoded
+    same =
+        let a : m₁ .next ≤ end₁ = omega (arith, r₁ .least, end-is₁) in
+        let b : end₁ ≤ m₂ .next = omega (arith, i₂ .after) in
+        let c : m₂ .next ≤ end₂ = omega (arith, r₂ .least, end-is₂) in
+        rw (
+          many₁,
+          many₂,
+          ← bytes₁,
+          ← bytes₂,
+          ← h .rules-count,
+          ← h .statuses-count,
+          part-join s 0 (m₁ .next) end₁ (omega arith) a,
+          part-join s 0 end₁ (m₂ .next) (omega arith) b,
+          part-join s 0 (m₂ .next) end₂ (omega arith) c,
+        )
+        (part-all s end₂ (h .no-rest))
+
+    back-again : UpdateBack s (rulesIn s apart) (statusesIn s apart)
+    back-again =
+        let rules = rulesIn s apart in
+        let xs = statusesIn s apart in
+        let t = taken-apart xs in
+        let k₁ : length rules ≤ 65536 = omega (arith, many₁, r₁ .least, r₁ .within) in
+        let k₂ : length xs ≤ 65536 = omega (arith, many₂, r₂ .least, r₂ .within) in
+        record {
+          accepted =
+              sym (none-refused rules (idsOf xs) (codesOf xs) (sizesOf xs) (rawOf xs) k₁ (omega (arith, t)) (omega (arith, t)) (omega (arith, t))
+              refl (none-large xs fine₂) refl (h .none-low) (t .1 ∙ sym (t .0)) (t .2 ∙ sym (t .0)) refl (t .3));
+          together = put-together xs;
+          same-bytes = same;
+        }
+
+-- an update that was read from bytes which are not too many, and not none
+not-long : (s : List ℕ) → updateOf s .refusal ≡ 0 → length s ≤ 65536
+unfolding updateOf
+not-long s = go (ltb 65536 (length s)) (cond (eqb (length s) 0) (record { refusal = 0; update = noUpdate }) (withRules s (itemsFrom (readRule s) (vlqAt 32 s 0)))) refl
+  where
+    go : (b : Bool) (rest : ParsedUpdate) → ltb 65536 (length s) ≡ b → cond b (refusedUpdate inputLong) rest .refusal ≡ 0 → length s ≤ 65536
+    go true rest t e = absurd (omega arith)
+    go false rest t e = ltb-false 65536 (length s) t
+
+update-is : (s : List ℕ) → length s ≤ 65536 → 0 < length s → updateOf s ≡ withRules s (itemsFrom (readRule s) (vlqAt 32 s 0))
+unfolding updateOf
+update-is s h k = rw (le-ltb 65536 (length s) h, ne-eqb (length s) 0 (λ z. omega arith))
+
+pub update-again : (s : List ℕ) → UpdateAgain s (updateOf s .update)
+update-again s z h =
+    let few = not-long s z in
+    let is = update-is s few (h .nonempty) in
+    let x = itemsFrom (readRule s) (vlqAt 32 s 0) in
+    let y = itemsFrom (readStatus s) (vlqAt 32 s (x .section .end)) in
+    let t = rules-then s x (sym (ap (λ (p : ParsedUpdate). p .refusal) is) ∙ z) in
+    let p = items-read (readRule s) (rule-stops s) (vlqAt 32 s 0) (t .0) in
+    let q = items-read (readStatus s) (status-stops s) (vlqAt 32 s (x .section .end)) (t .1) in
+    let e : updateOf s .update ≡ apart s (p .number) (q .number) (x .section .end) (y .section .end) =
+    ap (λ (u : ParsedUpdate). u .update) is ∙ t .2 ∙
+    ap (λ (r : Section). record { rules = r; statuses = y .section }) (p .section-is) ∙
+    ap (λ (r : Section). record { rules = section (countIn (p .number .value)) (p .number .next) (x .section .end); statuses = r }) (q .section-is) in
+    subst⁻¹ (λ (u : Update). UpdateBack s (rulesIn s u) (statusesIn s u)) e
+    (back-again s (p .number) (q .number) (x .section .end) (y .section .end) few (p .value-is) (q .value-is) (p .closed-is) (q .closed-is) (subst (ShortUpdate s) e h))
+
+-- the same of what an update's reader answered
+pub parsed-again : (s : List ℕ) (x : ParsedUpdate) → x ≡ updateOf s → (x ≡ updateOf s) × UpdateAgain s (x .update)
+parsed-again s x e = (e, subst⁻¹ (λ (y : ParsedUpdate). UpdateAgain s (y .update)) e (update-again s))

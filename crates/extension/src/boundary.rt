@@ -1,0 +1,89 @@
+// The boundary with the bytes of the proposed settings update. docs/RULES.md, "Boundary".
+use crate::update;
+use crate::update::ParsedUpdate;
+use crate::update::Update;
+use voting::boundary;
+use voting::boundary::Boundary;
+use voting::fork::Round;
+use voting::settings::VotingConfig;
+use voting::table::Table;
+use voting::table::Value;
+use voting::tally::Tally;
+ghost use mathlib.Core.Path.{_≡_};
+ghost use Rattle.voting.specs.Tally.{entries};
+ghost use Rattle.voting.specs.ForkPart.{noRound};
+ghost use Rattle.extension.specs.Update.{noUpdate};
+ghost use Rattle.extension.specs.Boundary.{activates, computedOf};
+
+// The rule under which entry 9 is not set by itself.
+const SUBBLOCKS_RULE: u16 = 409;
+
+// A refusal's number, or 0; the new table, what happens to a round, and the activated update. Refused: the old table, no event, no update.
+pub struct Computed {
+    pub refusal: u8,
+    pub table: Table,
+    pub round: Round,
+    pub activated: Update,
+}
+
+pub fn boundary_with_update(
+    config: VotingConfig,
+    height: u32,
+    table: Table,
+    tally: Tally,
+    vote: bool,
+    proposed_update: &[u8],
+) -> Computed
+    ensures { λ r. ⌜ r ≡ computedOf config height table (entries tally) vote (now («proposed_update» .entry)) ⌝ }
+{
+    let x = update::parse_validation_settings_update(proposed_update);
+    let e = x.refusal;
+    if e != 0 {
+        return refused(e, table);
+    }
+    let u = x.update;
+    let d = update::disables(proposed_update, u, SUBBLOCKS_RULE);
+    activates(
+        u,
+        boundary::boundary_parameters(config, height, table, tally, vote, d),
+    )
+}
+
+fn refused(refusal: u8, table: Table) -> Computed
+    ensures { λ r. ⌜ r ≡ record { refusal = refusal; table = table; round = noRound; activated = noUpdate } ⌝ }
+{
+    Computed {
+        refusal,
+        table,
+        round: Round {
+            opened: false,
+            closed: false,
+            rose: false,
+            total: Value::Absent,
+        },
+        activated: update::no_update(),
+    }
+}
+
+// The update is activated where the round raises the version.
+fn activates(u: Update, b: Boundary) -> Computed
+    ensures { λ r. ⌜ r ≡ activates u b ⌝ }
+{
+    let refusal = b.refusal;
+    let table = b.table;
+    let round = b.round;
+    if round.rose {
+        return Computed {
+            refusal,
+            table,
+            round,
+            activated: u,
+        };
+    }
+    Computed {
+        refusal,
+        table,
+        round,
+        activated: update::no_update(),
+    }
+}
