@@ -3,62 +3,12 @@
 // agree with them, or the program stops. The examples' answers are written out below. All other answers are those of rules.rs.
 
 mod common;
+mod lists;
 mod rules;
 
-use common::{bytes_of, row, vlq_read};
+use common::{bytes_of, vlq_read};
+use lists::*;
 use rules::*;
-
-// What stands behind each other in an input or an answer.
-#[derive(Clone, Default)]
-struct Bytes(Vec<u8>);
-
-fn bytes() -> Bytes {
-    Bytes::default()
-}
-
-impl Bytes {
-    fn byte(mut self, b: u8) -> Bytes {
-        self.0.push(b);
-        self
-    }
-    fn flag(self, b: bool) -> Bytes {
-        self.byte(b as u8)
-    }
-    fn number(mut self, n: u32) -> Bytes {
-        self.0.extend(n.to_be_bytes());
-        self
-    }
-    fn all(mut self, bytes: &[u8]) -> Bytes {
-        self.0.extend(bytes);
-        self
-    }
-    fn value(self, v: Value) -> Bytes {
-        self.flag(v.is_some()).number(v.unwrap_or(0) as u32)
-    }
-    fn values(self, values: &[Value]) -> Bytes {
-        values.iter().fold(self, |b, v| b.value(*v))
-    }
-    fn entry(self, e: Entry) -> Bytes {
-        self.byte(e.0 as u8).number(e.1)
-    }
-    fn tally(self, t: &Tally) -> Bytes {
-        t.iter().fold(self, |b, e| b.entry(*e))
-    }
-    fn settings(self, s: &Settings) -> Bytes {
-        self.number(s.length).number(s.vote_epochs).number(s.activation_epochs).number(s.version2_height)
-    }
-    fn round(self, r: &Round) -> Bytes {
-        self.flag(r.opened).flag(r.closed).flag(r.rose).value(r.total)
-    }
-    // A row with this input.
-    fn gives(&self, call: u8, answer: Bytes) {
-        row(call, &self.0, &answer.0);
-    }
-}
-
-fn settings(length: u32, vote_epochs: u32, activation_epochs: u32, version2_height: u32) -> Settings {
-    Settings { length, vote_epochs, activation_epochs, version2_height }
-}
 
 // A boundary's input.
 #[derive(Clone)]
@@ -90,66 +40,6 @@ impl AtBoundary {
 }
 
 // ---- The supplied lists. ----
-
-// A line is a function, its arguments and its answer.
-struct Line {
-    function: String,
-    words: Vec<String>,
-    answer: String,
-}
-
-fn list(folder: &str, name: &str) -> Vec<Line> {
-    let path = format!("{folder}/{name}.tsv");
-    let text = std::fs::read_to_string(&path).expect(&path);
-    text.lines()
-        .map(|line| {
-            let parts: Vec<&str> = line.split('\t').collect();
-            Line {
-                function: parts[0].to_string(),
-                words: parts[1].split(' ').map(|w| w.to_string()).collect(),
-                answer: parts[2].to_string(),
-            }
-        })
-        .collect()
-}
-
-fn items(text: &str) -> impl Iterator<Item = &str> {
-    text.split(',').filter(|item| *item != "-")
-}
-
-// `id=value,..`
-fn table_in(text: &str) -> Table {
-    let mut t = [None; 12];
-    for item in items(text) {
-        let (id, value) = item.split_once('=').unwrap();
-        t[place(id.parse().unwrap()).unwrap()] = Some(value.parse().unwrap());
-    }
-    t
-}
-
-// `id:count,..`
-fn entries_in(text: &str) -> Vec<Entry> {
-    items(text)
-        .map(|item| {
-            let (id, count) = item.split_once(':').unwrap();
-            (id.parse().unwrap(), count.parse().unwrap())
-        })
-        .collect()
-}
-
-fn settings_in(words: &[String]) -> Settings {
-    let n: Vec<u32> = words[..4].iter().map(|w| w.parse().unwrap()).collect();
-    settings(n[0], n[1], n[2], n[3])
-}
-
-fn votes_in(text: &str) -> [u8; 3] {
-    bytes_of(text).try_into().unwrap()
-}
-
-// The number of `refuse N`; 0 of any other answer.
-fn refusal_in(answer: &str) -> u8 {
-    answer.strip_prefix("refuse ").map_or(0, |n| n.parse().unwrap())
-}
 
 // Whether the bytes of a settings update that can be read disable rule 409. A count from 2^31 up is 0.
 fn disables_409(update: &[u8]) -> bool {

@@ -13,7 +13,8 @@ pub fn i32_from_be_bytes(bytes: [u8; 4]) -> i32
     i32_of(joined(bytes[0], bytes[1], bytes[2], bytes[3]))
 }
 
-fn joined(a: u8, b: u8, c: u8, d: u8) -> u32
+// For the layers above: four bytes as a number.
+pub fn joined(a: u8, b: u8, c: u8, d: u8) -> u32
     ensures { λ r. ⌜ r ≡ bigEndian (a ∷ b ∷ c ∷ d ∷ []) ⌝ }
     ensures back { λ r. ⌜ bigEndianBytes 4 r ≡ a ∷ b ∷ c ∷ d ∷ [] ⌝ }
 {

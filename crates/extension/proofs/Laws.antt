@@ -1,4 +1,5 @@
 pub mod Section
+pub mod Parts
 pub mod Body
 pub mod Parameters
 pub mod Mandatory

@@ -1,7 +1,9 @@
-// What each call of docs/VECTORS.md answers, as bytes; and its name. A function has a few of the calls and hands the others on: a long
+// What each call of codec and voting answers, as bytes; and its name. A function has a few of the calls and hands the others on: a long
 // match is slow to check.
 use crate::codec_calls;
 use crate::voting_calls;
+use rows::bytes;
+use rows::run;
 
 // The answer to a call's input, into out, and how many bytes it has; more than out holds where there is no such call or the input
 // is not as long as the call takes.
@@ -61,91 +63,48 @@ fn answer_from_27(call: u8, s: &[u8], out: &mut [u8]) -> usize {
         34 => voting_calls::config(s, out),
         35 => voting_calls::all_header_votes(s, out),
         36 => voting_calls::boundary_round(s, out),
-        _ => codec_calls::NO_ANSWER,
+        _ => bytes::NO_ANSWER,
     }
 }
 
-pub fn print_name(call: u8) {
-    match call {
-        1 => io::write_all(1, b"vlq::read_u16"),
-        2 => io::write_all(1, b"vlq::read_u32"),
-        3 => io::write_all(1, b"vlq::size"),
-        4 => io::write_all(1, b"vlq::write"),
-        _ => print_from_5(call),
-    }
-    ;
-}
-
-fn print_from_5(call: u8) -> bool {
-    match call {
-        5 => io::write_all(1, b"signed::i8_of, bits_i8"),
-        6 => io::write_all(1, b"signed::i16_of, bits_i16"),
-        7 => io::write_all(1, b"signed::i32_of, bits_i32"),
-        8 => io::write_all(1, b"signed::wrapping_add_i32"),
-        9 => io::write_all(1, b"signed::wrapping_neg_i8"),
-        _ => print_from_10(call),
-    }
-}
-
-fn print_from_10(call: u8) -> bool {
-    match call {
-        10 => io::write_all(1, b"rule::WireOffset::rule_id"),
-        11 => io::write_all(1, b"big_endian::i32_from_be_bytes"),
-        12 => io::write_all(1, b"big_endian::i32_to_be_bytes"),
-        13 => io::write_all(1, b"output::put"),
-        14 => io::write_all(1, b"output::put_bytes"),
-        15 => io::write_all(1, b"refusal::refusals"),
-        16 => io::write_all(1, b"vlq::put"),
-        _ => print_from_17(call),
-    }
-}
-
-fn print_from_17(call: u8) -> bool {
-    match call {
-        17 => io::write_all(1, b"header::check_header_votes"),
-        18 => io::write_all(1, b"header::votes_for"),
-        19 => io::write_all(1, b"tally::tally_votes_seeded"),
-        20 => io::write_all(1, b"tally::Tally::fork_count"),
-        _ => print_from_21(call),
-    }
-}
-
-fn print_from_21(call: u8) -> bool {
-    match call {
-        21 => io::write_all(1, b"fork::check_fork_vote, ForkVote::number"),
-        22 => io::write_all(1, b"boundary::boundary_parameters, the table"),
-        23 => io::write_all(1, b"fork::round_at"),
-        24 => io::write_all(1, b"fork::fork_after"),
-        _ => print_from_25(call),
-    }
-}
-
-fn print_from_25(call: u8) -> bool {
-    match call {
-        25 => io::write_all(1, b"table::check_block_version"),
-        26 => io::write_all(1, b"table::default_parameters"),
-        27 => io::write_all(1, b"table::Table::get"),
-        28 => io::write_all(1, b"table::Table::with"),
-        _ => print_from_29(call),
-    }
-}
-
-fn print_from_29(call: u8) -> bool {
-    match call {
-        29 => io::write_all(1, b"settings::VotingConfig::soft_fork_approved"),
-        30 => io::write_all(1, b"settings::VotingConfig::change_approved"),
-        31 => io::write_all(1, b"ordinary::parameter_min, parameter_max, parameter_step"),
-        32 => io::write_all(1, b"ordinary::vote"),
-        _ => print_from_33(call),
-    }
-}
-
-fn print_from_33(call: u8) -> bool {
-    match call {
-        33 => io::write_all(1, b"boundary::with_subblocks"),
-        34 => io::write_all(1, b"settings::VotingConfig::mainnet, testnet"),
-        35 => io::write_all(1, b"header::check_header_votes on all headers"),
-        36 => io::write_all(1, b"boundary::boundary_parameters, the round"),
-        _ => io::write_all(1, b"no such call"),
-    }
+// Prints the counts of a file's rows, with each call's name: a line for each call, from the first.
+pub fn print_counts(counts: &[u64; 512]) {
+    let names = b"vlq::read_u16
+vlq::read_u32
+vlq::size
+vlq::write
+signed::i8_of, bits_i8
+signed::i16_of, bits_i16
+signed::i32_of, bits_i32
+signed::wrapping_add_i32
+signed::wrapping_neg_i8
+rule::WireOffset::rule_id
+big_endian::i32_from_be_bytes
+big_endian::i32_to_be_bytes
+output::put
+output::put_bytes
+refusal::refusals
+vlq::put
+header::check_header_votes
+header::votes_for
+tally::tally_votes_seeded
+tally::Tally::fork_count
+fork::check_fork_vote, ForkVote::number
+boundary::boundary_parameters, the table
+fork::round_at
+fork::fork_after
+table::check_block_version
+table::default_parameters
+table::Table::get
+table::Table::with
+settings::VotingConfig::soft_fork_approved
+settings::VotingConfig::change_approved
+ordinary::parameter_min, parameter_max, parameter_step
+ordinary::vote
+boundary::with_subblocks
+settings::VotingConfig::mainnet, testnet
+header::check_header_votes on all headers
+boundary::boundary_parameters, the round
+";
+    run::print_counts(counts, 1, names);
 }

@@ -19,7 +19,7 @@ use Rattle.extension.specs.declared.body.FieldPlace.{FieldPlace}
 use Rattle.extension.specs.declared.body.FieldAt.the-variants.{HasField, NoField}
 use Rattle.extension.specs.Section.{got, bad, listing, closed, sectionItems, refusedSection, part, any}
 use Rattle.extension.specs.Body.{Field, fieldAt, fieldReading, readField, fieldsFrom, extensionOf, fieldsOf, headerId, bodyField, valueOf, fieldValue, updateKey, updateIn, proposedUpdate, wrongSize, wrongParameter, checkBody}
-use Rattle.extension.proofs.Laws.Section.{part-length}
+use Rattle.extension.proofs.Laws.Parts.{part-length}
 
 -- what stands at a position, by the tests in order
 module _ (s : List ℕ) (at : ℕ) where

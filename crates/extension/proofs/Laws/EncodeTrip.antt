@@ -11,8 +11,7 @@ use lib.Dec.{ltb, eqb}
 use lib.IntN.{ℤ, pos, negsuc}
 use lib.Signed.{ltZ}
 use lib.ListN.{length, take, drop, getD, length-append, length-drop}
-use native.Mathlib.Numerals.{add-one}
-use lib.Seq.{drop-drop, drop-append-seam, take-append-seam, getD-drop, take-add, take-all, drop-cons}
+use lib.Seq.{drop-append-seam, take-append-seam, getD-drop}
 use mir.Syntax.{w16}
 use Rattle.codec.specs.Vlq.{vlqAt, vlqBytes}
 use Rattle.codec.specs.Rule.{ruleOf}
@@ -35,12 +34,8 @@ use Rattle.extension.specs.Section.{Reading, got, bad, Listing, done, it
 use Rattle.extension.specs.Mandatory.{mandatoryRule}
 use Rattle.extension.specs.Update.{Status, placedRule, ruleAt, ruleReading, readRule, placedStatus, offsetThen, statusAt, statusReading, readStatus, countIn, itemsFrom, noUpdate, refusedUpdate, withStatuses, withRules, updateOf, rulesIn, statusesIn}
 use Rattle.extension.specs.Encode.{offsetOf, rulesBytes, statusBytes, statusesBytes, encoded, statusList, lowRule, sum, encodeRefusal, EncodedAgain, idsOf, codesOf, sizesOf, rawOf, Short, nextOf, endOf, ShortRules, ShortStatuses, ShortUpdate, UpdateBack, UpdateAgain}
-use Rattle.extension.proofs.Laws.Section.{part-length}
+use Rattle.extension.proofs.Laws.Parts.{part-length, part-join, part-all, part-cons, drop-past}
 use Rattle.extension.proofs.Laws.Encode.{status-length, agreed, statuses-count, none-refused, accepted}
-
--- after what stands at a position
-pub drop-past : (at : ℕ) (s a t : List ℕ) → drop at s ≡ a ++ t → drop (at + length a) s ≡ t
-drop-past at s a t e = sym (drop-drop (length a) at s) ∙ ap (drop (length a)) e ∙ drop-append-seam a t
 
 -- items that were all read, up to an end
 abbrev listed : {A : Type 0} → List A → ℕ → Listing A
@@ -248,21 +243,6 @@ update-back rules ids codes sizes raw small q fit z =
 -- The other way: an update in shortest form is what the writer gives. First the bytes between positions
 part-none : (s : List ℕ) (at : ℕ) → part s at at ≡ []
 part-none s at = let e : at - at ≡ 0 = omega arith in rw e
-
-part-join : (s : List ℕ) (a b c : ℕ) → a ≤ b → b ≤ c → part s a b ++ part s b c ≡ part s a c
-part-join s a b c h k =
-    let e : c - a ≡ b - a + (c - b) = omega arith in
-    let d : a + (b - a) ≡ b = omega arith in
-    sym (ap (λ (n : ℕ). take n (drop a s)) e ∙ take-add (b - a) (c - b) (drop a s) ∙ ap (λ (t : List ℕ). part s a b ++ take (c - b) t) (drop-drop (b - a) a s ∙ ap (λ (n : ℕ). drop n s) d))
-
-part-all : (s : List ℕ) (end : ℕ) → end ≡ length s → part s 0 end ≡ s
-part-all s end e = take-all (end - 0) s (omega arith)
-
-part-cons : (s : List ℕ) (at n : ℕ) → at < length s → part s at (at + 1 + n) ≡ getD s at 0 ∷ part s (at + 1) (at + 1 + n)
-part-cons s at n h =
-    let e : at + 1 + n - at ≡ suc n = omega arith in
-    let d : at + 1 + n - (at + 1) ≡ n = omega arith in
-    rw (e, d, drop-cons s at 0 h, add-one at)
 
 abbrev next-of : {A : Type 0} → Reading A → ℕ
 next-of (got a next) = next

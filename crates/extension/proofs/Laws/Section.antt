@@ -6,9 +6,7 @@ use mathlib.Core.List.{List, [], _∷_}
 use Prim.Native.Nat.{ℕ, zero, suc, _-_, _≤_, _<_}
 use native.Mathlib.Numerals.{sub-one}
 use native.Mathlib.Omega.{arith}
-use lib.ListN.{length, drop, length-drop}
-use lib.Seq.{length-take-le}
-use Rattle.extension.specs.Section.{Reading, got, bad, Listing, done, stop, item, after, listing, items, section, refusedSection, closed, any, part}
+use Rattle.extension.specs.Section.{Reading, got, bad, Listing, done, stop, item, after, listing, items, section, refusedSection, closed, any}
 
 module _ {A : Type 0} (read : ℕ → Reading A) (n at : ℕ) where
   pub listing-none : n ≤ 0 → listing read n at ≡ done at
@@ -81,9 +79,3 @@ module _ {A : Type 0} (p : A → Bool) (xs : List A) where
 
   pub any-passed : (x : A) (rest : List A) → xs ≡ x ∷ rest → p x ≡ false → any p rest ≡ any p xs
   any-passed x rest e t = sym (ap (any p) e ∙ any-next p x rest t)
-
--- a part has as many bytes as its place
-pub part-length : (s : List ℕ) (start end : ℕ) → end ≤ length s → length (part s start end) ≡ end - start
-part-length s start end h =
-    let l : length (drop start s) ≡ length s - start = length-drop start s in
-    length-take-le (end - start) (drop start s) (omega arith)

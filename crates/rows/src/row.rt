@@ -1,4 +1,8 @@
 // A row of recorded answers as it is read, byte by byte. docs/VECTORS.md has its form.
+use crate::bytes;
+
+// The most bytes of an input and of an answer. Both go into one lent array: the input from its start, the answer after that many bytes.
+pub const GROUP_MOST: usize = 0x2_0000;
 
 // A digit that is none.
 const NO_DIGIT: u8 = 16;
@@ -65,8 +69,8 @@ fn joined(high: u8, low: u8) -> u8 {
 }
 
 impl Row {
-    // The row after one more byte of its line; the bytes of its groups go into input and answer.
-    pub fn after(self, b: u8, input: &mut [u8], answer: &mut [u8]) -> Row {
+    // The row after one more byte of its line.
+    pub fn after(self, b: u8, groups: &mut [u8; 0x4_0000]) -> Row {
         if self.comment {
             return self;
         }
@@ -79,7 +83,7 @@ impl Row {
         if b == b'-' {
             return self.dashed();
         }
-        self.after_digit(digit_of(b), input, answer)
+        self.after_digit(digit_of(b), groups)
     }
 
     fn unsound(mut self) -> Row {
@@ -98,10 +102,7 @@ impl Row {
 
     // A group that ends here holds something, and no half of a byte.
     fn closed(self) -> Row {
-        if self.digit != NO_DIGIT {
-            return self.unsound();
-        }
-        if self.holds == NOTHING {
+        if (self.digit != NO_DIGIT) | (self.holds == NOTHING) {
             return self.unsound();
         }
         self
@@ -119,21 +120,15 @@ impl Row {
 
     // A dash stands alone, for an input or an answer with no bytes.
     fn dashed(mut self) -> Row {
-        if self.holds != NOTHING {
-            return self.unsound();
-        }
-        if self.group == 0 {
+        if (self.holds != NOTHING) | (self.group == 0) {
             return self.unsound();
         }
         self.holds = DASH;
         self
     }
 
-    fn after_digit(mut self, d: u8, input: &mut [u8], answer: &mut [u8]) -> Row {
-        if d == NO_DIGIT {
-            return self.unsound();
-        }
-        if self.holds == DASH {
+    fn after_digit(mut self, d: u8, groups: &mut [u8; 0x4_0000]) -> Row {
+        if (d == NO_DIGIT) | (self.holds == DASH) {
             return self.unsound();
         }
         self.begun = true;
@@ -144,33 +139,41 @@ impl Row {
         }
         let b = joined(self.digit, d);
         self.digit = NO_DIGIT;
-        self.after_byte(b, input, answer)
-    }
-
-    // A call has one byte, and a group no more than its buffer holds.
-    fn after_byte(mut self, b: u8, input: &mut [u8], answer: &mut [u8]) -> Row {
         if self.group == 0 {
-            if self.called {
-                return self.unsound();
-            }
-            self.called = true;
-            self.call = b;
-            return self;
+            return self.named(b);
         }
         if self.group == 1 {
-            let at = self.input;
-            if input.len() <= at {
-                return self.unsound();
-            }
-            input[at] = b;
-            self.input = at + 1;
-            return self;
+            return self.with_input(b, groups);
         }
-        let at = self.answer;
-        if answer.len() <= at {
+        self.with_answer(b, groups)
+    }
+
+    // A call has one byte.
+    fn named(mut self, b: u8) -> Row {
+        if self.called {
             return self.unsound();
         }
-        answer[at] = b;
+        self.called = true;
+        self.call = b;
+        self
+    }
+
+    fn with_input(mut self, b: u8, groups: &mut [u8; 0x4_0000]) -> Row {
+        let at = self.input;
+        if GROUP_MOST <= at {
+            return self.unsound();
+        }
+        groups[at] = b;
+        self.input = at + 1;
+        self
+    }
+
+    fn with_answer(mut self, b: u8, groups: &mut [u8; 0x4_0000]) -> Row {
+        let at = self.answer;
+        if GROUP_MOST <= at {
+            return self.unsound();
+        }
+        groups[GROUP_MOST + at] = b;
         self.answer = at + 1;
         self
     }
@@ -186,5 +189,22 @@ impl Row {
             return self.unsound();
         }
         self.closed()
+    }
+
+    // Its input.
+    pub fn input_in(self, groups: &[u8]) -> &[u8] {
+        bytes::part(groups, 0, self.input)
+    }
+
+    // Whether n bytes of out are its answer. A row that is out of form has none.
+    pub fn is_answered(self, groups: &[u8], out: &[u8], n: usize) -> bool {
+        if !self.sound {
+            return false;
+        }
+        if out.len() < n {
+            return false;
+        }
+        let end = bytes::after(GROUP_MOST, self.answer);
+        check::same(&out[0..n], bytes::part(groups, GROUP_MOST, end))
     }
 }
