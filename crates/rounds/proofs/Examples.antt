@@ -12,12 +12,9 @@ use lib.IntN.{pos}
 use lib.ListN.{length}
 use Rattle.codec.specs.Signed.{modulo, bitsOf, signedOf, wrapped}
 use Rattle.voting.specs.declared.settings.VotingConfig.{VotingConfig}
-use Rattle.voting.specs.declared.table.Value.{Value}
-use Rattle.voting.specs.declared.table.Value.the-variants.{Absent, Number}
 use Rattle.voting.specs.declared.table.Fork.{Fork}
 use Rattle.voting.specs.declared.fork.RoundAt.{RoundAt}
 use Rattle.voting.specs.declared.fork.Forked.{Forked}
-use Rattle.voting.specs.declared.fork.ForkVote.the-variants.{Allowed, Barred}
 use Rattle.voting.specs.Common.{eqZ, count, first}
 use Rattle.voting.specs.Settings.{votingLength, settings, forkLimit, softForkApproved, settingsLarge}
 use Rattle.voting.specs.Header.{votesIn, negation, ordinaryVote, fault, faultIn, checkVotes, checkHeaderVotes, votesFor, AllLegal}
@@ -25,6 +22,7 @@ use Rattle.voting.specs.Tally.{headers, slotEntry, seeded, entry, entries, firs
 use Rattle.voting.specs.ForkCheck.{epochsAfter, between, barred, checkRound, forkRefusal}
 use Rattle.voting.specs.ForkPart.{forkTotal, roundSteps, roundBy, roundFrom, roundAt, storedOr, votesAfter, startAfter, risen, forced, versionAfter, forkAfter}
 use Rattle.voting.proofs.Laws.Header.{first-zero}
+use Rattle.voting.proofs.Laws.Fork.{allowed}
 use Rattle.rounds.specs.Epochs.{firstVotes, boundaryVotes, counted}
 use Rattle.rounds.specs.Book.{idle, since}
 use Rattle.rounds.specs.Replay.{Answer, refused, accepted, Replay, run, Lawful}
@@ -105,16 +103,6 @@ legal : (hs : List (List ℕ)) → illegal hs ≡ 0 → AllLegal hs
 unfolding illegal
 legal [] e = tt
 legal (h ∷ hs) e = let q = first-zero (checkHeaderVotes h) (illegal hs) e in (q .0, legal hs (q .1))
-
-allowed : (g : VotingConfig) (h : ℕ) (start votes : Value) → forkRefusal (checkRound g h start votes) ≡ 0 → checkRound g h start votes ≡ Allowed
-unfolding checkRound forkRefusal
-allowed g h Absent votes e = refl
-allowed g h (Number s) Absent e = absurd (omega arith)
-allowed g h (Number s) (Number n) e = go (barred g h s n) e
-  where
-    go : (b : Bool) → forkRefusal (cond b Barred Allowed) ≡ 0 → cond b Barred Allowed ≡ Allowed
-    go true e = absurd (omega arith)
-    go false e = refl
 
 same : (s t : State) → accepted s ≡ accepted t → s ≡ t
 same s t e = cc

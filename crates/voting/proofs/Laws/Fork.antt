@@ -1,10 +1,11 @@
 -- The fork check and the fork part, by the ways through the code.
 -- Assumes nothing.
-use mathlib.Core.Path.{_≡_, sym, ap, _∙_}
+use mathlib.Core.Path.{_≡_, refl, sym, ap, _∙_}
 use mathlib.Core.Bool.{Bool, true, false, not, cond, _&&_, _||_}
 use Prim.Native.Nat.{ℕ, _+_, _*_, _<_, _^_}
 use mathlib.Core.List.{List}
 use lib.Dec.{ltb, leb, eqb}
+use native.Mathlib.Omega.{arith}
 use borrow.Author.Tests.{eq-eqb, ne-eqb}
 use lib.IntN.{ℤ, pos, _+ℤ_}
 use mir.Syntax.{w32}
@@ -25,7 +26,7 @@ use Rattle.voting.specs.Common.{eqZ}
 use Rattle.voting.specs.Settings.{votingLength, voteEpochs, activationEpochs, softForkApproved, settingsLarge}
 use Rattle.voting.specs.Table.{lookup, forkEntries}
 use Rattle.voting.specs.Header.{votesFor}
-use Rattle.voting.specs.ForkCheck.{epochsAfter, between, barred, checkRound, checkForkVote}
+use Rattle.voting.specs.ForkCheck.{epochsAfter, between, barred, checkRound, checkForkVote, forkRefusal}
 use Rattle.voting.specs.ForkPart.{noRound, happens, roundRefused, forkTotal, roundSteps, roundBy, roundFrom, roundAt, storedOr, votesAfter, startAfter, risen, forced, versionAfter}
 use Rattle.voting.proofs.Laws.Integers.{at-exactly, at-most, at-least, below}
 
@@ -169,3 +170,14 @@ module _ (rose at : Bool) (votes start : Value) (old : Fork) (version : Value) w
   pub some-version : (z a b : ℤ) → version ≡ Number z → a ≡ risen rose z → b ≡ forced at a → record { refusal = 0; fork = forkEntries votes start (Number b) } ≡ versionAfter rose at votes start old version
   unfolding versionAfter
   some-version z a b e is-a is-b = rw (e, is-b, is-a)
+
+-- a fork check that turns nobody down allows
+pub allowed : (g : VotingConfig) (h : ℕ) (start votes : Value) → forkRefusal (checkRound g h start votes) ≡ 0 → checkRound g h start votes ≡ Allowed
+unfolding checkRound forkRefusal
+allowed g h Absent votes e = refl
+allowed g h (Number s) Absent e = absurd (omega arith)
+allowed g h (Number s) (Number n) e = go (barred g h s n) e
+  where
+    go : (b : Bool) → forkRefusal (cond b Barred Allowed) ≡ 0 → cond b Barred Allowed ≡ Allowed
+    go true e = absurd (omega arith)
+    go false e = refl

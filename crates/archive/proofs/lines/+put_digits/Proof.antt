@@ -1,0 +1,156 @@
+-- `archive::lines::put_digits` meets its contract. Assumes nothing.
+use native.Mathlib.Omega.{arith}
+use borrow.Author.Needs.{needs}
+use Prim.Native.Nat.{ℕ}
+use borrow.Fn.Kinds.{In}
+use borrow.Fn.PlainCycle.{Measures, is, falls, and}
+use Rattle.archive.proofs.Laws.Lines.{wider, same-text, nothing, joined, digits-none, digits-first, digits-more}
+use Rattle.archive.proofs.lines.put_digits.Reads as put-digits
+use Rattle.archive.proofs.lines.put_digits.Kinds as put-digits-kinds
+use Rattle.archive.proofs.lines.+put_digits.Lts-put_digits as put-digits-lts
+use Rattle.archive.proofs.lines.put.Reads as put-reads
+use Rattle.archive.proofs.lines.+put_digits.{statement}
+use Rattle.archive.proofs.lines.+put_digits.Tie.{close}
+
+abbrev μ-put-digits : Measures 1 put-digits-kinds.ps ℕ
+μ-put-digits κs a = a .1 .1 .1 .0
+
+abbrev put-digits-at : ℕ → In 1 put-digits-kinds.ps
+put-digits-at t =
+    and 1 put-digits-kinds.ps (is 1 put-digits-kinds.ps μ-put-digits t) put-digits.Pre
+
+abbrev put-digits-below : ℕ → In 1 put-digits-kinds.ps
+put-digits-below t =
+    and 1 put-digits-kinds.ps (falls 1 put-digits-kinds.ps _<_ μ-put-digits t) put-digits.Pre
+
+put-digits-returns : (t : ℕ) → put-digits-lts.Need-returns (
+  put-reads.Asked,
+  put-reads.Learnt,
+  put-digits-below t,
+  put-digits.Post,
+) (put-digits-at t) put-digits.Post
+put-digits-returns t c = wider (omega arith) (same-text (digits-none _ _ (c .if1 .taken)) (nothing _ _))
+
+put-digits-cast-put : (t : ℕ) → put-digits-lts.Need-cast-put (
+  put-reads.Asked,
+  put-reads.Learnt,
+  put-digits-below t,
+  put-digits.Post,
+) (put-digits-at t) put-digits.Post
+put-digits-cast-put t c = search needs
+
+put-digits-add-put : (t : ℕ) → put-digits-lts.Need-add-put (
+  put-reads.Asked,
+  put-reads.Learnt,
+  put-digits-below t,
+  put-digits.Post,
+) (put-digits-at t) put-digits.Post
+put-digits-add-put t c = search needs
+
+put-digits-put-requires : (t : ℕ) → put-digits-lts.Need-put-requires (
+  put-reads.Asked,
+  put-reads.Learnt,
+  put-digits-below t,
+  put-digits.Post,
+) (put-digits-at t) put-digits.Post
+put-digits-put-requires t c κs = search needs
+
+put-digits-same-length : (t : ℕ) → put-digits-lts.Need-same-length (
+  put-reads.Asked,
+  put-reads.Learnt,
+  put-digits-below t,
+  put-digits.Post,
+) (put-digits-at t) put-digits.Post
+put-digits-same-length t c = search needs
+
+put-digits-returns-2 : (t : ℕ) → put-digits-lts.Need-returns-2 (
+  put-reads.Asked,
+  put-reads.Learnt,
+  put-digits-below t,
+  put-digits.Post,
+) (put-digits-at t) put-digits.Post
+put-digits-returns-2 t c =
+    let b = c .before .before .before .before in
+    wider (omega arith) (same-text (digits-first _ _ (b .before .if1 .left) (b .if2 .taken)) (c .before .before .put .ensures))
+
+put-digits-sub-put-digits : (t : ℕ) → put-digits-lts.Need-sub-put-digits (
+  put-reads.Asked,
+  put-reads.Learnt,
+  put-digits-below t,
+  put-digits.Post,
+) (put-digits-at t) put-digits.Post
+put-digits-sub-put-digits t c = search needs
+
+put-digits-put-digits-requires : (t : ℕ) → put-digits-lts.Need-put-digits-requires (
+  put-reads.Asked,
+  put-reads.Learnt,
+  put-digits-below t,
+  put-digits.Post,
+) (put-digits-at t) put-digits.Post
+put-digits-put-digits-requires t c κs = search needs
+
+put-digits-cast-put-2 : (t : ℕ) → put-digits-lts.Need-cast-put-2 (
+  put-reads.Asked,
+  put-reads.Learnt,
+  put-digits-below t,
+  put-digits.Post,
+) (put-digits-at t) put-digits.Post
+put-digits-cast-put-2 t c = search needs
+
+put-digits-add-put-2 : (t : ℕ) → put-digits-lts.Need-add-put-2 (
+  put-reads.Asked,
+  put-reads.Learnt,
+  put-digits-below t,
+  put-digits.Post,
+) (put-digits-at t) put-digits.Post
+put-digits-add-put-2 t c = search needs
+
+put-digits-put-requires-2 : (t : ℕ) → put-digits-lts.Need-put-requires-2 (
+  put-reads.Asked,
+  put-reads.Learnt,
+  put-digits-below t,
+  put-digits.Post,
+) (put-digits-at t) put-digits.Post
+put-digits-put-requires-2 t c κs = search needs
+
+put-digits-same-length-2 : (t : ℕ) → put-digits-lts.Need-same-length-2 (
+  put-reads.Asked,
+  put-reads.Learnt,
+  put-digits-below t,
+  put-digits.Post,
+) (put-digits-at t) put-digits.Post
+put-digits-same-length-2 t c = search needs
+
+put-digits-returns-3 : (t : ℕ) → put-digits-lts.Need-returns-3 (
+  put-reads.Asked,
+  put-reads.Learnt,
+  put-digits-below t,
+  put-digits.Post,
+) (put-digits-at t) put-digits.Post
+put-digits-returns-3 t c =
+    let b = c .before .before .before .before .before .before in
+    let d = b .before .before in
+    wider (omega arith) (same-text (digits-more _ _ (d .before .if1 .left) (d .if2 .left)) (joined (b .put-digits .ensures) (c .before .before .put2 .ensures)))
+
+pub +put-digits-spec : {M : Type 1} → statement M
++put-digits-spec = close μ-put-digits λ t. put-digits-lts.spec (
+  put-reads.Asked,
+  put-reads.Learnt,
+  put-digits-below t,
+  put-digits.Post,
+)
+    (put-digits-at t)
+    put-digits.Post
+    (put-digits-returns t)
+    (put-digits-cast-put t)
+    (put-digits-add-put t)
+    (put-digits-put-requires t)
+    (put-digits-same-length t)
+    (put-digits-returns-2 t)
+    (put-digits-sub-put-digits t)
+    (put-digits-put-digits-requires t)
+    (put-digits-cast-put-2 t)
+    (put-digits-add-put-2 t)
+    (put-digits-put-requires-2 t)
+    (put-digits-same-length-2 t)
+    (put-digits-returns-3 t)

@@ -1,0 +1,41 @@
+-- `archive::lines::write_end` meets its contract. Assumes nothing.
+use mathlib.Core.Path.{ap, _∙_}
+use mathlib.Core.List.{List}
+use Prim.Native.Nat.{ℕ}
+use borrow.Author.Needs.{needs}
+use Rattle.codec.specs.Output.{writes}
+use Rattle.archive.proofs.Laws.Lines.{read-back}
+use Rattle.archive.proofs.lines.write_end.Statement.{statement}
+use Rattle.archive.proofs.lines.write_end.Tie as tie
+
+slice-aggregate-put-end : tie.Need-slice-aggregate-put-end
+slice-aggregate-put-end c = search needs
+
+put-end-requires : tie.Need-put-end-requires
+put-end-requires c κs = search needs
+
+slice-aggregate-hand-out : tie.Need-slice-aggregate-hand-out
+slice-aggregate-hand-out c = search needs
+
+hand-out-requires : tie.Need-hand-out-requires
+hand-out-requires c κs = search needs
+
+same-length : tie.Need-same-length
+same-length c = search needs
+
+returns : tie.Need-returns
+returns c =
+    let p = c .before .before .before .before .before .before in
+    let s = p .before .before .before in
+    c .before .before .hand-out .ensures ∙ ap (λ (w : List ℕ). writes w (s .args .out .now)) (read-back (p .put-end .ensures) (search needs))
+
+pub write-end-spec : {M : Type 1} → statement M
+write-end-spec =
+    tie.close
+    (tie.spec
+    slice-aggregate-put-end
+    put-end-requires
+    slice-aggregate-hand-out
+    hand-out-requires
+    same-length
+    returns)

@@ -1,0 +1,52 @@
+// The headers of an epoch, one after another. docs/RULES.md, "Replay".
+use voting::fork;
+use voting::header;
+use voting::settings::VotingConfig;
+use voting::table::Table;
+ghost use mathlib.Core.Path.{_≡_};
+ghost use Prim.Native.Nat.{_+_, _/_, _≤_};
+ghost use lib.ListN.{length};
+ghost use Rattle.archive.specs.Headers.{checkHeaders, checkForkVotes};
+
+// The header check of every header in order: 9, 10 or 11 of the first that is not legal, or 0. One or two bytes left over are no header.
+pub fn check_headers(votes: &[u8]) -> u8
+    ensures { λ r. ⌜ r ≡ checkHeaders (now (votes .entry)) ⌝ }
+{
+    let n = votes.len() / 3;
+    let mut i: usize = 0;
+    while i < n {
+        let at = 3 * i;
+        let e = header::check_header_votes([votes[at], votes[at + 1], votes[at + 2]]);
+        if e != 0 {
+            return e;
+        }
+        i += 1;
+    }
+    0
+}
+
+// The fork check of every header in order, the first at this height: 12, 18 or 19 of the first that is not allowed, or 0.
+pub(crate) fn check_fork_votes(config: VotingConfig, table: Table, height: u32, votes: &[u8]) -> u8
+    requires { ⌜ height + length (now votes) / 3 ≤ 4294967295 ⌝ }
+    ensures { λ r. ⌜ r ≡ checkForkVotes config table height (now (votes .entry)) ⌝ }
+{
+    let n = votes.len() / 3;
+    let mut h = height;
+    let mut i: usize = 0;
+    while i < n {
+        let at = 3 * i;
+        let vote = fork::check_fork_vote(
+            config,
+            h,
+            [votes[at], votes[at + 1], votes[at + 2]],
+            table,
+        );
+        let e = vote.number();
+        if e != 0 {
+            return e;
+        }
+        h += 1;
+        i += 1;
+    }
+    0
+}
