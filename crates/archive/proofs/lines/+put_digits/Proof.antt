@@ -1,7 +1,7 @@
 -- `archive::lines::put_digits` meets its contract. Assumes nothing.
 use native.Mathlib.Omega.{arith}
 use borrow.Author.Needs.{needs}
-use Prim.Native.Nat.{ℕ}
+use Prim.Native.Nat.{ℕ, _<_}
 use borrow.Fn.Kinds.{In}
 use borrow.Fn.PlainCycle.{Measures, is, falls, and}
 use Rattle.archive.proofs.Laws.Lines.{wider, same-text, nothing, joined, digits-none, digits-first, digits-more}
