@@ -311,12 +311,7 @@ impl AtBoundary {
 // Nothing of rows that the call can't say: more than three entries, or an entry with id 0. The list has the activated update's rules and
 // statuses; where they stand in its bytes is said by extension_rules.rs.
 fn boundary_line(line: &Line) {
-    let entries = entries_in(&line.words[6]);
-    if entries.len() > 3 || entries.iter().any(|e| e.0 == 0) {
-        return;
-    }
-    let mut tally = [(0, 0); 3];
-    tally[..entries.len()].copy_from_slice(&entries);
+    let Some(tally) = tally_in(&line.words[6]) else { return };
     let at = AtBoundary {
         settings: settings_in(&line.words),
         height: line.words[4].parse().unwrap(),

@@ -114,3 +114,14 @@ pub fn votes_in(text: &str) -> [u8; 3] {
 pub fn refusal_in(answer: &str) -> u8 {
     answer.strip_prefix("refuse ").map_or(0, |n| n.parse().unwrap())
 }
+
+// The entries of a list as a tally of three places; none where it has more than three, or one with id 0.
+pub fn tally_in(word: &str) -> Option<Tally> {
+    let entries = entries_in(word);
+    if entries.len() > 3 || entries.iter().any(|e| e.0 == 0) {
+        return None;
+    }
+    let mut tally = [(0, 0); 3];
+    tally[..entries.len()].copy_from_slice(&entries);
+    Some(tally)
+}

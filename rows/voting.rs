@@ -101,12 +101,10 @@ fn tally_line(line: &Line) {
 // meet before.
 fn boundary_line(line: &Line) -> Option<AtBoundary> {
     let refusal = refusal_in(&line.answer);
-    let entries = entries_in(&line.words[6]);
-    if entries.len() > 3 || entries.iter().any(|e| e.0 == 0) || refusal == 7 || refusal == 8 {
+    if refusal == 7 || refusal == 8 {
         return None;
     }
-    let mut tally = [(0, 0); 3];
-    tally[..entries.len()].copy_from_slice(&entries);
+    let tally = tally_in(&line.words[6])?;
     let at = AtBoundary {
         settings: settings_in(&line.words),
         height: line.words[4].parse().unwrap(),

@@ -112,7 +112,7 @@ opened (suc n) height t = record { refusal = suc n; state = record { settings = 
 unfoldable pub openOf : ℕ → Table → Opened
 openOf height t = opened (openingRefusal height) height t
 
--- the first four tests
+-- the first four tests of `onParts`, taken together, for the function that makes them
 unfoldable pub earlyRefusal : Replay → ℕ → List ℕ → List ℕ → ℕ
 earlyRefusal s height body votes =
     first (heightRefusal s height)

@@ -49,15 +49,15 @@ unfoldable pub answer : Replayed → Answer Core
 answer r = answerBy (r .verdict) (r .state)
 
 -- the height and the vote bytes of a record
-unfoldable pub heightIn : RecordAt → ℕ
-heightIn (Whole p) = p .height
-heightIn (Short k) = 0
-heightIn Malformed = 0
+unfoldable pub recordHeight : RecordAt → ℕ
+recordHeight (Whole p) = p .height
+recordHeight (Short k) = 0
+recordHeight Malformed = 0
 
-unfoldable pub votesIn : List ℕ → RecordAt → List ℕ
-votesIn xs (Whole p) = part xs (p .votes) (p .end)
-votesIn xs (Short k) = []
-votesIn xs Malformed = []
+unfoldable pub recordVotes : List ℕ → RecordAt → List ℕ
+recordVotes xs (Whole p) = part xs (p .votes) (p .end)
+recordVotes xs (Short k) = []
+recordVotes xs Malformed = []
 
 -- the replay by these settings
 abbrev pub interface : VotingConfig → Interface.Replay
@@ -68,8 +68,8 @@ interface g =
       fork = λ c. c .table .fork;
       next = λ c. c .next;
       forkVotes = λ c. firstCount (pos 120) (entries (c .tally));
-      height = λ xs. heightIn (recordAt xs (votesSize g));
-      votes = λ xs. votesIn xs (recordAt xs (votesSize g));
+      height = λ xs. recordHeight (recordAt xs (votesSize g));
+      votes = λ xs. recordVotes xs (recordAt xs (votesSize g));
       step = λ c xs. answer (replayOf (full g c) xs);
     }
 

@@ -106,9 +106,9 @@ unfoldable pub sizesOf : List Status → List ℕ
 sizesOf [] = []
 sizesOf (x ∷ xs) = length (x .raw) ∷ sizesOf xs
 
-unfoldable pub rawOf : List Status → List ℕ
-rawOf [] = []
-rawOf (x ∷ xs) = x .raw ++ rawOf xs
+unfoldable pub allRaw : List Status → List ℕ
+allRaw [] = []
+allRaw (x ∷ xs) = x .raw ++ allRaw xs
 
 -- a number that was read at a position stood there in shortest form
 abbrev pub Short : List ℕ → ℕ → Read → Type 0
@@ -146,8 +146,8 @@ pub record ShortUpdate (s : List ℕ) (u : Update) : Type 0 where
 
 -- it is what the writer gives for its rules and its statuses
 pub record UpdateBack (s : List ℕ) (rules : List ℕ) (statuses : List Status) : Type 0 where
-  pub accepted : encodeRefusal rules (idsOf statuses) (codesOf statuses) (sizesOf statuses) (rawOf statuses) ≡ 0
-  pub together : statusList (idsOf statuses) (codesOf statuses) (sizesOf statuses) (rawOf statuses) ≡ statuses
+  pub accepted : encodeRefusal rules (idsOf statuses) (codesOf statuses) (sizesOf statuses) (allRaw statuses) ≡ 0
+  pub together : statusList (idsOf statuses) (codesOf statuses) (sizesOf statuses) (allRaw statuses) ≡ statuses
   pub same-bytes : encoded rules statuses ≡ s
 
 abbrev pub UpdateAgain : List ℕ → Update → Type 0

@@ -1,23 +1,23 @@
 -- A text after a text in a scratch buffer, the digits of a number, and a text handed out.
 -- Assumes nothing.
-use mathlib.Core.Path.{_≡_, refl, ap, sym, subst, _∙_}
+use mathlib.Core.Path.{_≡_, refl, ap, sym, subst, subst⁻¹, _∙_}
 use mathlib.Core.Bool.{true, false}
 use mathlib.Core.List.{List, [], _∷_, _++_}
 use Prim.Native.Nat.{ℕ, zero, suc, _+_, _-_, _/_, _%_, _^_, _≤_, _<_}
 use native.Mathlib.Numerals.{sub-one}
 use native.Mathlib.Omega.{arith}
-use borrow.Author.Tests.{lt-ltb, le-ltb, ltb-true}
-use lib.Dec.{T}
+use borrow.Author.Tests.{lt-ltb, le-ltb}
 use lib.ListN.{length, take, drop, length-append}
 use lib.Seq.{sets, sets-eq, take-at, length-take-le}
 use lib.IntN.{ℤ, pos, negsuc, natAbs}
 use lib.Signed.{ltZ, mag}
 use mir.Syntax.{w32}
 use mir.Val.{Fits, SFits, toZ, ofZ}
-use mir.ValLaws.{toZ-ofZ, toZ-pos}
+use mir.ValLaws.{toZ-ofZ}
 use Rattle.codec.specs.Output.{wrote, refused, writes}
 use Rattle.codec.specs.Refusal.{outputShort}
 use Rattle.codec.proofs.Laws.Output.{sets-append, short, done}
+use Rattle.codec.proofs.Laws.Signed.{is-neg, not-neg, flip}
 use Rattle.voting.specs.declared.table.Value.{Value}
 use Rattle.voting.specs.declared.table.Value.the-variants.{Absent, Number}
 use Rattle.archive.specs.Put.{Put}
@@ -58,14 +58,12 @@ digits-more (suc k) n f h = rw (le-ltb _ _ h, sub-one)
 
 -- a signed number by its sign, as the test `x < 0` tells it, and what `(!x) as u32` or `x as u32` leaves
 split-neg : (x : ℤ) → SFits w32 x → ltZ (toZ w32 (ofZ w32 x)) (pos 0) ≡ true → negsuc (natAbs (toZ w32 (4294967295 - ofZ w32 x))) ≡ x
-split-neg (pos n) f t = absurd (omega (arith, ltb-true n 0 (rw (toZ-ofZ w32 (pos n) f) at t)))
-split-neg (negsuc n) f t =
-    let e : 4294967295 - (4294967296 - suc n) ≡ n = omega (arith, f .sfits) in
-    ap (λ (m : ℕ). negsuc (natAbs (toZ w32 m))) e ∙ ap (λ (z : ℤ). negsuc (natAbs z)) (toZ-pos w32 n (f .sfits))
+split-neg x f t =
+    subst⁻¹ (λ (y : ℤ). negsuc (natAbs (toZ w32 (4294967295 - ofZ w32 y))) ≡ y) (is-neg w32 x f t)
+    (ap (λ (z : ℤ). negsuc (natAbs z)) (flip w32 (mag x) (f .sfits)))
 
 split-pos : (x : ℤ) → SFits w32 x → ltZ (toZ w32 (ofZ w32 x)) (pos 0) ≡ false → pos (natAbs (toZ w32 (ofZ w32 x))) ≡ x
-split-pos (pos n) f t = ap (λ (z : ℤ). pos (natAbs z)) (toZ-ofZ w32 (pos n) f)
-split-pos (negsuc n) f t = absurd (subst T (rw (toZ-ofZ w32 (negsuc n) f) at t) tt)
+split-pos x f t = ap (λ (z : ℤ). pos (natAbs z)) (toZ-ofZ w32 x f) ∙ subst⁻¹ (λ (y : ℤ). pos (natAbs y) ≡ y) (not-neg w32 x f t) refl
 
 module _ (x : ℤ) (f : SFits w32 x) where
   pub decimal-neg : ltZ (toZ w32 (ofZ w32 x)) (pos 0) ≡ true → (45 ∷ []) ++ digits 10 (natAbs (toZ w32 (4294967295 - ofZ w32 x)) + 1) ≡ decimal x

@@ -51,7 +51,7 @@ use Rattle.archive.specs.Record.{recordAt}
 use Rattle.archive.specs.Headers.{headersRefusal, checkHeaders, forkRefusals, checkForkVotes}
 use Rattle.archive.specs.Replay.{refuses, gate, onward, afterMatch, afterBoundary, heightRefusal, onParts, onRecord, votesSize, replayOf}
 use Rattle.archive.proofs.Laws.RecordTrip.{votes-long}
-use Rattle.archive.specs.Rounds.{Core, core, full, answerBy, answer, heightIn, votesIn, interface, stateAfter, Kept}
+use Rattle.archive.specs.Rounds.{Core, core, full, answerBy, answer, recordHeight, recordVotes, interface, stateAfter, Kept}
 
 -- an accepted answer, taken apart
 abbrev Accepts : Replayed → Replay → Type 0
@@ -181,8 +181,8 @@ parts-met s height body votes u l e₀ =
 -- ---- the law
 
 record-met : (s : Replay) (xs : List ℕ) (u : Replay) (x : RecordAt) → x ≡ recordAt xs (votesSize (s .settings)) → Accepts (onRecord s xs x) u
-    → (length (votesIn xs x) ≡ 3 * votingLength (s .settings)) × Met s (heightIn x) (votesIn xs x) u
-unfolding onRecord heightIn votesIn
+    → (length (recordVotes xs x) ≡ 3 * votingLength (s .settings)) × Met s (recordHeight x) (recordVotes xs x) u
+unfolding onRecord recordHeight recordVotes
 record-met s xs u (Whole p) q e = go (eqb (p .end) (length xs)) e
   where
     l : length (part xs (p .votes) (p .end)) ≡ 3 * votingLength (s .settings)

@@ -52,16 +52,16 @@ signed-back w n h =
     rw (← toZ-is w n, ← ofZ-is w (toZ w n) (toZ-fits w n f)) (ofZ-toZ w n f)
 
 -- the sign that a test `x < 0` leaves
-is-neg : (w : Width) (z : ℤ) → SFits w z → ltZ (toZ w (ofZ w z)) (pos 0) ≡ true → z ≡ negsuc (mag z)
+pub is-neg : (w : Width) (z : ℤ) → SFits w z → ltZ (toZ w (ofZ w z)) (pos 0) ≡ true → z ≡ negsuc (mag z)
 is-neg w (pos n) f t = absurd (omega (arith, ltb-true n 0 (rw (toZ-ofZ w (pos n) f) at t)))
 is-neg w (negsuc n) f t = refl
 
-not-neg : (w : Width) (z : ℤ) → SFits w z → ltZ (toZ w (ofZ w z)) (pos 0) ≡ false → z ≡ pos (mag z)
+pub not-neg : (w : Width) (z : ℤ) → SFits w z → ltZ (toZ w (ofZ w z)) (pos 0) ≡ false → z ≡ pos (mag z)
 not-neg w (pos n) f t = refl
 not-neg w (negsuc n) f t = absurd (subst T (rw (toZ-ofZ w (negsuc n) f) at t) tt)
 
 -- `!x` of a negative x, read as signed: its magnitude
-flip : (w : Width) (n : ℕ) → n < 2 ^ hbits w → toZ w ((2 ^ bits w - 1) - (2 ^ bits w - suc n)) ≡ pos n
+pub flip : (w : Width) (n : ℕ) → n < 2 ^ hbits w → toZ w ((2 ^ bits w - 1) - (2 ^ bits w - suc n)) ≡ pos n
 flip w n h = ap (toZ w) (omega (arith, pow-bits w)) ∙ toZ-pos w n h
 
 -- The needs of `if x < 0 { !((!x) as uN) } else { x as uN }`

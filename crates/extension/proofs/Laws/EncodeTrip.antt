@@ -33,7 +33,7 @@ use Rattle.extension.specs.declared.update.ParsedUpdate.{ParsedUpdate}
 use Rattle.extension.specs.Section.{Reading, got, bad, Listing, done, item, after, listing, items, closed, section, sectionItems, part, any}
 use Rattle.extension.specs.Mandatory.{mandatoryRule}
 use Rattle.extension.specs.Update.{Status, placedRule, ruleAt, ruleReading, readRule, placedStatus, offsetThen, statusAt, statusReading, readStatus, countIn, itemsFrom, noUpdate, refusedUpdate, withStatuses, withRules, updateOf, rulesIn, statusesIn}
-use Rattle.extension.specs.Encode.{offsetOf, rulesBytes, statusBytes, statusesBytes, encoded, statusList, lowRule, sum, encodeRefusal, EncodedAgain, idsOf, codesOf, sizesOf, rawOf, Short, nextOf, endOf, ShortRules, ShortStatuses, ShortUpdate, UpdateBack, UpdateAgain}
+use Rattle.extension.specs.Encode.{offsetOf, rulesBytes, statusBytes, statusesBytes, encoded, statusList, lowRule, sum, encodeRefusal, EncodedAgain, idsOf, codesOf, sizesOf, allRaw, Short, nextOf, endOf, ShortRules, ShortStatuses, ShortUpdate, UpdateBack, UpdateAgain}
 use Rattle.extension.proofs.Laws.Parts.{part-length, part-join, part-all, part-cons, drop-past}
 use Rattle.extension.proofs.Laws.Encode.{status-length, agreed, statuses-count, none-refused, accepted}
 
@@ -467,17 +467,17 @@ statuses-joined [] = refl
 statuses-joined (x ∷ xs) = ap (λ (t : List ℕ). statusBytes x ++ t) (statuses-joined xs)
 
 -- statuses taken apart and put together again
-taken-apart : (xs : List Status) → (length (idsOf xs) ≡ length xs) × (length (codesOf xs) ≡ length xs) × (length (sizesOf xs) ≡ length xs) × (sum (sizesOf xs) ≡ length (rawOf xs))
-unfolding idsOf codesOf sizesOf rawOf sum
+taken-apart : (xs : List Status) → (length (idsOf xs) ≡ length xs) × (length (codesOf xs) ≡ length xs) × (length (sizesOf xs) ≡ length xs) × (sum (sizesOf xs) ≡ length (allRaw xs))
+unfolding idsOf codesOf sizesOf allRaw sum
 taken-apart [] = (refl, refl, refl, refl)
 taken-apart (x ∷ xs) =
     let t = taken-apart xs in
-    (ap suc (t .0), ap suc (t .1), ap suc (t .2), ap (λ (n : ℕ). length (x .raw) + n) (t .3) ∙ sym (length-append (x .raw) (rawOf xs)))
+    (ap suc (t .0), ap suc (t .1), ap suc (t .2), ap (λ (n : ℕ). length (x .raw) + n) (t .3) ∙ sym (length-append (x .raw) (allRaw xs)))
 
-put-together : (xs : List Status) → statusList (idsOf xs) (codesOf xs) (sizesOf xs) (rawOf xs) ≡ xs
-unfolding idsOf codesOf sizesOf rawOf statusList
+put-together : (xs : List Status) → statusList (idsOf xs) (codesOf xs) (sizesOf xs) (allRaw xs) ≡ xs
+unfolding idsOf codesOf sizesOf allRaw statusList
 put-together [] = refl
-put-together (x ∷ xs) = rw (take-append-seam (x .raw) (rawOf xs), drop-append-seam (x .raw) (rawOf xs)) (ap (λ (ys : List Status). x ∷ ys) (put-together xs))
+put-together (x ∷ xs) = rw (take-append-seam (x .raw) (allRaw xs), drop-append-seam (x .raw) (allRaw xs)) (ap (λ (ys : List Status). x ∷ ys) (put-together xs))
 
 none-large : (xs : List Status) → Each Fine xs → any (ltb 65535) (sizesOf xs) ≡ false
 unfolding any sizesOf
@@ -569,7 +569,7 @@ module _ (s : List ℕ) (m₁ m₂ : Number) (end₁ end₂ : ℕ) where
         let k₂ : length xs ≤ 65536 = omega (arith, many₂, r₂ .least, r₂ .within) in
         record {
           accepted =
-              sym (none-refused rules (idsOf xs) (codesOf xs) (sizesOf xs) (rawOf xs) k₁ (omega (arith, t)) (omega (arith, t)) (omega (arith, t))
+              sym (none-refused rules (idsOf xs) (codesOf xs) (sizesOf xs) (allRaw xs) k₁ (omega (arith, t)) (omega (arith, t)) (omega (arith, t))
               refl (none-large xs fine₂) refl (h .none-low) (t .1 ∙ sym (t .0)) (t .2 ∙ sym (t .0)) refl (t .3));
           together = put-together xs;
           same-bytes = same;
