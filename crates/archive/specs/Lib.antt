@@ -5,3 +5,4 @@ pub mod Lines
 pub mod Stream
 pub mod Replay
 pub mod Rounds
+pub mod Run
