@@ -6,3 +6,4 @@ pub mod Lines
 pub mod Stream
 pub mod Rounds
 pub mod Replay
+pub mod Run

@@ -3,3 +3,4 @@ pub mod headers;
 pub mod lines;
 pub mod record;
 pub mod replay;
+pub mod run;

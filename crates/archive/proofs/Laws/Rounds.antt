@@ -228,10 +228,20 @@ lawful g c xs t e =
       brings = ap (λ (x : Core). firstCount (pos 120) (entries (x .tally))) (sym (a .1)) ∙ ap (λ (y : Tally). firstCount (pos 120) (entries y)) (m .1 .brings);
     }
 
+-- an accepted record's epoch ends at 2^31 or before, where the next one begins
+pub accepted-at : (s : Replay) (xs : List ℕ) → replayOf s xs .verdict ≡ Accepted
+    → (s .next + votingLength (s .settings) ≤ 2 ^ 31) × (replayOf s xs .state .next ≡ s .next + votingLength (s .settings))
+unfolding replayOf
+accepted-at s xs e =
+    let t = replayOf s xs .state in
+    let m = record-met s xs t (recordAt xs (votesSize (s .settings))) refl (ap (λ (v : Verdict). record { verdict = v; state = t }) e) .1 in
+    let l = votingLength (s .settings) in
+    (subst (λ (h : ℕ). h + l ≤ 2 ^ 31) (m .height-is) (m .top), m .next-is ∙ ap (λ (h : ℕ). h + l) (m .height-is))
+
 -- ---- the replay's own states
 
 -- a refused record leaves the state as it was, and an accepted one its settings
-abbrev KeepsBy : Replay → Verdict → Replay → Type 0
+abbrev pub KeepsBy : Replay → Verdict → Replay → Type 0
 KeepsBy s Accepted t = t .settings ≡ s .settings
 KeepsBy s (Refused n) t = t ≡ s
 KeepsBy s (Mismatch id) t = t ≡ s

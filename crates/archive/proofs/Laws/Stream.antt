@@ -21,7 +21,7 @@ taken-split zero l = refl
 taken-split (suc k) [] = refl
 taken-split (suc k) (x ∷ l) = ap (λ (t : List ℕ). x ∷ t) (taken-split k l)
 
-taken-most : (k : ℕ) (l : List ℕ) → (length (take k l) ≤ k) × (length (take k l) ≤ length l)
+pub taken-most : (k : ℕ) (l : List ℕ) → (length (take k l) ≤ k) × (length (take k l) ≤ length l)
 taken-most zero l = (omega arith, omega arith)
 taken-most (suc k) [] = (omega arith, omega arith)
 taken-most (suc k) (x ∷ l) = let h = taken-most k l in (omega (arith, h .0), omega (arith, h .1))
