@@ -1,6 +1,6 @@
 -- A run over an input that comes in pieces: the library's calls, and what they mean. docs/RULES.md, "Replay".
 -- Assumes nothing.
-use Prim.Native.Nat.{ℕ, _+_, _*_, _%_, _^_, _≤_}
+use Prim.Native.Nat.{ℕ, _+_, _*_, _%_, _^_, _≤_, _<_}
 use mathlib.Core.Path.{_≡_}
 use mathlib.Core.Bool.{true, false, cond}
 use mathlib.Core.List.{List, [], _++_}
@@ -22,7 +22,7 @@ use Rattle.archive.specs.Lines.{headLine, epochLine, endLine}
 use Rattle.archive.specs.Replay.{votesSize, replayOf}
 use Rattle.archive.specs.Rounds.{recordHeight}
 use Rattle.archive.specs.Stream as Stream
-use Rattle.archive.specs.Stream.{Step, goes, stops, printed, running, over, missing, piecewise, joined}
+use Rattle.archive.specs.Stream.{Step, goes, stops, printed, running, over, missing, piecewise, joined, Waiting}
 
 -- ---- the calls
 
@@ -116,30 +116,32 @@ stepOf s bytes = stepBy (recordHeight (recordAt bytes (votesSize (s .settings)))
 unfoldable pub runOf : Run → List ℕ → Stream.Run Replay
 runOf r cells = cond (r .over) over (running (r .replay) (r .accepted) (held r cells))
 
--- L headers were read for each epoch that was counted: so holds of a run as it begins, and stays. Heights end at 2^31, the count below 2^32
-pub record Counted (r : Run) : Type 0 where
+-- a run and its buffer as they begin, and stay: L headers were read for each epoch that was counted, and heights end at 2^31, so that the
+-- count stays below 2^32; the buffer can hold the longest record, and holds the bytes so far of one that is not whole
+pub record Ready (r : Run) (cells : List ℕ) : Type 0 where
   pub some : 1 ≤ votingLength (r .replay .settings)
   pub low : r .accepted * votingLength (r .replay .settings) ≤ r .replay .next
+  pub room : 13 + bodyMost + votesSize (r .replay .settings) ≤ length cells
+  pub inside : r .filled ≤ length cells
+  pub waits : Waiting (votesSize (r .replay .settings)) (runOf r cells)
 
--- a call of `feed` that is not refused, and what it left in the buffer
+-- a call of `feed`, and what it left in the buffer: it is not refused, it does what the run over a stream does, and it takes a byte at least
 pub record Feeds (r : Run) (cells piece : List ℕ) (f : Fed) (after : List ℕ) : Type 0 where
+  pub passes : f .refusal ≡ 0
   pub feeds : Stream.feed (votesSize (r .replay .settings)) stepOf (runOf r cells) piece
       ≡ record { run = runOf (f .run) after; used = f .used; prints = textOf (f .print) }
-  pub counted : Counted (f .run)
+  pub moves : 0 < length piece → 0 < f .used
+  pub ready : Ready (f .run) after
   pub settings-stay : f .run .replay .settings ≡ r .replay .settings
 
--- a buffer that holds the longest record is never too short
-abbrev pub Roomy : Run → List ℕ → Fed → Type 0
-Roomy r cells f =
-    r .filled ≤ length cells → 13 + bodyMost + votesSize (r .replay .settings) ≤ length cells → (f .refusal ≡ 0) × (f .run .filled ≤ length cells)
+-- a run as it begins. However an input is cut: the first line, and what the pieces and the end print one after the other, are what is printed
+-- for the whole
+pub record Begins (s : Replay) (r : Run) : Type 0 where
+  pub ready : (cells : List ℕ) → 1 ≤ votingLength (s .settings) → 13 + bodyMost + votesSize (s .settings) ≤ length cells → Ready r cells
+  pub is : (cells : List ℕ) → runOf r cells ≡ running s 0 []
+  pub in-pieces : (pieces : List (List ℕ)) → printed (votesSize (s .settings)) stepOf s (joined pieces)
+      ≡ headLine ++ piecewise (votesSize (s .settings)) stepOf (running s 0 []) pieces
 
--- however an input is cut: the first line, and what the pieces and the end print one after the other, are what is printed for the whole
-abbrev pub InPieces : Replay → Run → Type 0
-InPieces s r =
-    ((cells : List ℕ) → runOf r cells ≡ running s 0 [])
-    × (1 ≤ votingLength (s .settings) → Counted r)
-    × ((pieces : List (List ℕ)) → printed (votesSize (s .settings)) stepOf s (joined pieces) ≡ headLine ++ piecewise (votesSize (s .settings)) stepOf (running s 0 []) pieces)
-
--- the end, where the buffer holds what the run says
+-- the end
 abbrev pub Finishes : Run → Print → Type 0
 Finishes r p = (cells : List ℕ) → r .filled ≤ length cells → textOf p ≡ Stream.finish (runOf r cells)

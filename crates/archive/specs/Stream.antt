@@ -2,6 +2,7 @@
 -- The definitions are over any state and any step: what a record does to a state.
 -- Assumes nothing.
 use Prim.Native.Nat.{ℕ, zero, suc, _+_}
+use mathlib.Core.Path.{_≡_}
 use mathlib.Core.List.{List, [], _∷_, _++_}
 use lib.ListN.{length, take, drop}
 use Rattle.codec.specs.Refusal.{recordMalformed}
@@ -41,6 +42,11 @@ printed size step s input = headLine ++ printedFrom size step (suc (length input
 pub data Run (S : Type 0) : Type 0 where
   running : S → ℕ → List ℕ → Run S
   over : Run S
+
+-- the bytes so far are the beginning of a record that is not whole, or the reading has ended
+abbrev pub Waiting : {S : Type 0} → ℕ → Run S → Type 0
+Waiting size (running s n bytes) = (k : ℕ) × (Short k ≡ recordAt bytes size)
+Waiting size over = Unit {0}
 
 -- after some bytes were taken of a piece: how many, and what is printed
 pub record Fed (S : Type 0) : Type 0 where

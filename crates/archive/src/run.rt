@@ -20,7 +20,7 @@ ghost use Rattle.archive.specs.Replay.{votesSize};
 ghost use Rattle.archive.specs.Stream.{missing};
 ghost use Rattle.archive.specs.declared.run.Print.the-variants.{Nothing};
 ghost use Rattle.archive.specs.declared.replay.Verdict.the-variants.{Accepted};
-ghost use Rattle.archive.specs.Run.{textOf, begun, waitsWith, endsBy, afterReplay, afterBytes, fedOf, cellsOf, lastBy, finishOf, Counted, Feeds, Roomy, InPieces, Finishes};
+ghost use Rattle.archive.specs.Run.{textOf, begun, waitsWith, endsBy, afterReplay, afterBytes, fedOf, cellsOf, lastBy, finishOf, Ready, Feeds, Begins, Finishes};
 
 // The state of the replay, how many epochs were accepted, how many bytes of a record that is not whole stand at the start of the buffer, and
 // whether the reading has ended.
@@ -59,7 +59,7 @@ pub struct Fed {
 // A run at its beginning.
 pub fn begin(replay: Replay) -> Run
     ensures { λ r. ⌜ r ≡ begun replay ⌝ }
-    ensures pieces { λ r. ⌜ InPieces replay r ⌝ }
+    ensures begins { λ r. ⌜ Begins replay r ⌝ }
 {
     Run {
         replay,
@@ -73,8 +73,7 @@ pub fn begin(replay: Replay) -> Run
 pub fn feed(run: Run, cells: &mut [u8], piece: &[u8]) -> Fed
     ensures { λ r. ⌜ r ≡ fedOf run (now (cells .entry)) (now (piece .entry)) ⌝ }
     ensures lent { λ r. ⌜ now (cells .exit) ≡ cellsOf run (now (cells .entry)) (now (piece .entry)) ⌝ }
-    ensures feeds { λ r. ⌜ (Counted run → r .refusal ≡ 0 → Feeds run (now (cells .entry)) (now (piece .entry)) r (now (cells .exit))) ⌝ }
-    ensures roomy { λ r. ⌜ (Roomy run (now (cells .entry)) r) ⌝ }
+    ensures feeds { λ r. ⌜ (Ready run (now (cells .entry)) → Feeds run (now (cells .entry)) (now (piece .entry)) r (now (cells .exit))) ⌝ }
     ensures inside { λ r. ⌜ r .used ≤ length (now (piece .entry)) ⌝ }
 {
     if run.over {
@@ -111,9 +110,10 @@ pub fn fail(run: Run) -> Print
 }
 
 impl Print {
-    // Writes the line.
+    // Writes the line, which has at most 47 bytes.
     pub fn write(self, out: &mut [u8]) -> Wrote
         ensures { λ r. ⌜ outcome r (now (out .exit)) ≡ writes (textOf self) (now (out .entry)) ⌝ }
+        ensures short { λ r. ⌜ length (textOf self) ≤ 47 ⌝ }
     {
         match self {
             Print::Nothing => Wrote::Bytes(0),

@@ -1,12 +1,13 @@
 -- A text after a text in a scratch buffer, the digits of a number, and a text handed out.
 -- Assumes nothing.
 use mathlib.Core.Path.{_≡_, refl, ap, sym, subst, subst⁻¹, _∙_}
-use mathlib.Core.Bool.{true, false}
+use mathlib.Core.Bool.{Bool, true, false, cond}
 use mathlib.Core.List.{List, [], _∷_, _++_}
 use Prim.Native.Nat.{ℕ, zero, suc, _+_, _-_, _/_, _%_, _^_, _≤_, _<_}
 use native.Mathlib.Numerals.{sub-one}
 use native.Mathlib.Omega.{arith}
 use borrow.Author.Tests.{lt-ltb, le-ltb}
+use lib.Dec.{ltb}
 use lib.ListN.{length, take, drop, length-append}
 use lib.Seq.{sets, sets-eq, take-at, length-take-le}
 use lib.IntN.{ℤ, pos, negsuc, natAbs}
@@ -20,8 +21,9 @@ use Rattle.codec.proofs.Laws.Output.{sets-append, short, done}
 use Rattle.codec.proofs.Laws.Signed.{is-neg, not-neg, flip}
 use Rattle.voting.specs.declared.table.Value.{Value}
 use Rattle.voting.specs.declared.table.Value.the-variants.{Absent, Number}
+use Rattle.voting.specs.declared.table.Fork.{Fork}
 use Rattle.archive.specs.Put.{Put}
-use Rattle.archive.specs.Lines.{digits, decimal, column}
+use Rattle.archive.specs.Lines.{digits, decimal, column, epochLine, endLine}
 
 -- a text, and another after it
 pub joined : {a b : List ℕ} {m n i j k : ℕ} {d d′ d″ : List ℕ} → Put a m i j d d′ → Put b n j k d′ d″ → Put (a ++ b) (m + n) i k d d″
@@ -105,3 +107,46 @@ module _ (text : List ℕ) (n : ℕ) (fits : n ≤ length text) where
 
   pub handed : (d : List ℕ) → n ≤ length d → (after : List ℕ) → after ≡ sets d 0 (take n text) → wrote n after ≡ writes (take n text) d
   handed d h after q = done (take n text) d n part-length h after q
+
+-- how long a line is
+record Most (l : List ℕ) (n : ℕ) : Type 0 where
+  is : length l ≤ n
+
+append-most : {a b : List ℕ} {m n : ℕ} → Most a m → Most b n → Most (a ++ b) (m + n)
+append-most {a} {b} h g = record { is = omega (arith, length-append a b, h .is, g .is) }
+
+digits-length : (k n : ℕ) → length (digits k n) ≤ k
+unfolding digits
+digits-length zero n = omega arith
+digits-length (suc k) n = one-more (ltb n 10) (digits k (n / 10)) (digits-length k (n / 10))
+  where
+    one-more : (b : Bool) (l : List ℕ) → length l ≤ k → length (cond b ((48 + n) ∷ []) (l ++ ((48 + n % 10) ∷ []))) ≤ suc k
+    one-more true l h = omega arith
+    one-more false l h = omega (arith, h, length-append l ((48 + n % 10) ∷ []))
+
+digits-most : (n : ℕ) → Most (digits 10 n) 10
+digits-most n = record { is = digits-length 10 n }
+
+one-most : (x : ℕ) → Most (x ∷ []) 1
+one-most x = record { is = omega arith }
+
+column-most : (v : Value) → Most (column v) 11
+unfolding column decimal
+column-most Absent = record { is = omega arith }
+column-most (Number (pos n)) = record { is = omega (arith, digits-length 10 n) }
+column-most (Number (negsuc n)) = record { is = omega (arith, digits-length 10 (n + 1)) }
+
+pub epoch-most : (height : ℕ) (f : Fork) → length (epochLine height f) ≤ 47
+unfolding epochLine
+epoch-most height f =
+    let a = append-most (digits-most height) (one-most 32) in
+    let b = append-most (append-most a (column-most (f .version))) (one-most 32) in
+    let c = append-most (append-most b (column-most (f .start))) (one-most 32) in
+    append-most (append-most c (column-most (f .votes))) (one-most 10) .is
+
+pub end-most : (accepted refusal : ℕ) → length (endLine accepted refusal) ≤ 47
+unfolding endLine
+end-most accepted refusal =
+    let e : Most (101 ∷ 110 ∷ 100 ∷ []) 3 = record { is = omega arith } in
+    let a = append-most (append-most (append-most e (one-most 32)) (digits-most accepted)) (one-most 32) in
+    omega (arith, append-most (append-most a (digits-most refusal)) (one-most 10) .is)

@@ -8,7 +8,7 @@ use native.Mathlib.Numerals.{add-one}
 use native.Mathlib.Omega.{arith}
 use borrow.Author.Tests.{lt-leb, le-leb, leb-true, leb-false, eq-eqb, ne-eqb}
 use lib.Dec.{leb, eqb}
-use lib.ListN.{length, take, drop, length-append}
+use lib.ListN.{length, take, drop, length-append, length-drop}
 use lib.Seq.{take-all, take-at, sets, sets-eq}
 use Rattle.codec.specs.Refusal.{entryDiffers, outputShort, recordMalformed}
 use Rattle.codec.specs.Output.{Outcome, wrote, writes}
@@ -32,11 +32,12 @@ use Rattle.archive.specs.Lines.{epochLine, endLine}
 use Rattle.archive.specs.Replay.{votesSize, replayOf}
 use Rattle.archive.specs.Rounds.{recordHeight}
 use Rattle.archive.specs.Stream as Stream
-use Rattle.archive.specs.Stream.{Step, running, over, missing, stepped, settled}
-use Rattle.archive.specs.Run.{textOf, begun, held, taken, waitsWith, endsBy, afterReplay, afterBytes, fedBy, fedOf, cellsBy, cellsOf, lastBy, finishOf, stepBy, stepOf, runOf, Counted, Feeds, Roomy, InPieces, Finishes}
+use Rattle.archive.specs.Stream.{Step, running, over, missing, stepped, settled, Waiting}
+use Rattle.archive.specs.Run.{textOf, begun, held, taken, waitsWith, endsBy, afterReplay, afterBytes, fedBy, fedOf, cellsBy, cellsOf, lastBy, finishOf, stepBy, stepOf, runOf, Ready, Feeds, Begins, Finishes}
+use Rattle.archive.proofs.Laws.Lines.{epoch-most, end-most}
 use Rattle.archive.proofs.Laws.RecordTrip.{short-room}
 use Rattle.archive.proofs.Laws.Rounds.{KeepsBy, keeps, accepted-at}
-use Rattle.archive.proofs.Laws.Stream.{taken-most, in-pieces}
+use Rattle.archive.proofs.Laws.Stream.{taken-most, waits-empty, settled-waits, feed-fine, in-pieces}
 
 cond-yes : {A : Type 0} (b : Bool) (x y : A) → b ≡ true → x ≡ cond b x y
 cond-yes true x y e = refl
@@ -62,9 +63,14 @@ module _ (n k : ℕ) (l : List ℕ) (q : n ≡ k) where
   pub took-long : length l ≤ n → length l ≡ length (take k l)
   took-long h = took-all k l (omega (arith, q, h))
 
-pub begins : (s : Replay) → InPieces s (begun s)
+pub begins : (s : Replay) → Begins s (begun s)
 unfolding runOf
-begins s = (λ cells. refl, λ h. record { some = h; low = omega arith }, λ pieces. in-pieces (votesSize (s .settings)) stepOf s pieces)
+begins s =
+    record {
+      ready = λ cells h l. record { some = h; low = omega arith; room = l; inside = omega arith; waits = (3, waits-empty (votesSize (s .settings)) stepOf) };
+      is = λ cells. refl;
+      in-pieces = in-pieces (votesSize (s .settings)) stepOf s;
+    }
 
 -- a run with its buffer
 run-over : (r : Run) (cells : List ℕ) → r .over ≡ true → runOf r cells ≡ over
@@ -163,11 +169,16 @@ stand r cells new h =
     let t = took (r .filled) cells (omega arith) in
     take-at (held r cells ++ new) (drop (r .filled + length new) cells) (r .filled + length new) (omega (arith, t, length-append (held r cells) new))
 
+same-room : (r : Run) (cells new : List ℕ) → r .filled + length new ≤ length cells → length (held r cells ++ new ++ drop (r .filled + length new) cells) ≡ length cells
+same-room r cells new h =
+    let d = drop (r .filled + length new) cells in
+    omega (arith, h, took (r .filled) cells (omega arith), length-append (held r cells) new, length-append (held r cells ++ new) d, length-drop (r .filled + length new) cells)
+
 -- ---- what a call means
 
 record Means (r : Run) (f : Fed) (after : List ℕ) (x : Stream.Fed Replay) : Type 0 where
   is : x ≡ record { run = runOf (f .run) after; used = f .used; prints = textOf (f .print) }
-  counted : Counted (f .run)
+  low : f .run .accepted * votingLength (r .replay .settings) ≤ f .run .replay .next
   settings-stay : f .run .replay .settings ≡ r .replay .settings
 
 low-times : (n l : ℕ) → 1 ≤ l → n ≤ n * l
@@ -177,7 +188,7 @@ low-times (suc n) l h = let r = low-times n l h in omega (arith, r)
 add-times : (n l : ℕ) → (n + 1) * l ≡ n * l + l
 add-times n l = rw (add-one n) (omega arith)
 
-module _ (r : Run) (c : Counted r) (after : List ℕ) where
+module _ (r : Run) (some : 1 ≤ votingLength (r .replay .settings)) (low : r .accepted * votingLength (r .replay .settings) ≤ r .replay .next) (after : List ℕ) where
   abbrev s : Replay
   s = r .replay
 
@@ -190,22 +201,18 @@ module _ (r : Run) (c : Counted r) (after : List ℕ) where
     unfolding stepped stepBy runOf afterReplay textOf
     verdict-means height Accepted q k =
         let a = accepted-at s bytes q in
-        let w = low-times (r .accepted) (votingLength (s .settings)) (c .some) in
-        let fit : (r .accepted + 1) % 4294967296 ≡ r .accepted + 1 = omega (arith, a .0, w, c .low, c .some) in
+        let w = low-times (r .accepted) (votingLength (s .settings)) some in
+        let fit : (r .accepted + 1) % 4294967296 ≡ r .accepted + 1 = omega (arith, a .0, w, low, some) in
         record {
           is = ap (λ (n : ℕ). record { run = running t n []; used = used; prints = epochLine height (t .table .fork) }) (sym fit);
-          counted = record {
-            some = subst (λ (g : VotingConfig). 1 ≤ votingLength g) (sym k) (c .some);
-            low = subst (λ (g : VotingConfig). (r .accepted + 1) % 2 ^ 32 * votingLength g ≤ t .next) (sym k)
-                (subst (λ (n : ℕ). n * votingLength (s .settings) ≤ t .next) (sym fit) (next-low (a .1)));
-          };
+          low = subst (λ (n : ℕ). n * votingLength (s .settings) ≤ t .next) (sym fit) (next-low (a .1));
           settings-stay = k;
         }
       where
         next-low : t .next ≡ s .next + votingLength (s .settings) → (r .accepted + 1) * votingLength (s .settings) ≤ t .next
-        next-low e = let m = add-times (r .accepted) (votingLength (s .settings)) in omega (arith, e, m, c .low)
-    verdict-means height (Refused n) q k = record { is = refl; counted = record { some = c .some; low = c .low }; settings-stay = refl }
-    verdict-means height (Mismatch id) q k = record { is = refl; counted = record { some = c .some; low = c .low }; settings-stay = refl }
+        next-low e = let m = add-times (r .accepted) (votingLength (s .settings)) in omega (arith, e, m, low)
+    verdict-means height (Refused n) q k = record { is = refl; low = low; settings-stay = refl }
+    verdict-means height (Mismatch id) q k = record { is = refl; low = low; settings-stay = refl }
 
     bytes-means : take (r .filled + used) after ≡ bytes → (x : RecordAt) → x ≡ recordAt bytes (sized r)
         → Means r (afterBytes r bytes used x) after (settled x stepOf s (r .accepted) bytes used)
@@ -214,8 +221,8 @@ module _ (r : Run) (c : Counted r) (after : List ℕ) where
         subst (λ (h : ℕ). Means r (afterReplay r (p .height) used (replayOf s bytes .verdict) t) after (stepped (stepBy h (replayOf s bytes .verdict) t) (r .accepted) used)) (ap recordHeight q)
         (verdict-means (p .height) (replayOf s bytes .verdict) refl (keeps s bytes))
     bytes-means e (Short k) q =
-        record { is = ap (λ (l : List ℕ). record { run = running s (r .accepted) l; used = used; prints = [] }) (sym e); counted = record { some = c .some; low = c .low }; settings-stay = refl }
-    bytes-means e Malformed q = record { is = refl; counted = record { some = c .some; low = c .low }; settings-stay = refl }
+        record { is = ap (λ (l : List ℕ). record { run = running s (r .accepted) l; used = used; prints = [] }) (sym e); low = low; settings-stay = refl }
+    bytes-means e Malformed q = record { is = refl; low = low; settings-stay = refl }
 
 -- the bytes that are taken find room in a buffer that holds the longest record
 room-enough : (r : Run) (cells piece : List ℕ) → r .filled ≤ length cells → 13 + bodyMost + sized r ≤ length cells → r .filled + length (taken r cells piece) ≤ length cells
@@ -251,25 +258,33 @@ bytes-plain r bytes used Malformed = record { passes = refl; takes = refl; holds
 -- all that a call of `feed` promises beside its equations
 module _ (r : Run) (cells piece : List ℕ) where
   abbrev Promised : Fed → List ℕ → Type 0
-  Promised f after = (Counted r → f .refusal ≡ 0 → Feeds r cells piece f after) × (Roomy r cells f × (f .used ≤ length piece))
+  Promised f after = (Ready r cells → Feeds r cells piece f after) × (f .used ≤ length piece)
 
   abbrev new : List ℕ
   new = taken r cells piece
+
+  -- from what it means: a byte is taken
+  byte-taken : Ready r cells → (f : Fed) (after : List ℕ)
+      → Stream.feed (sized r) stepOf (runOf r cells) piece ≡ record { run = runOf (f .run) after; used = f .used; prints = textOf (f .print) }
+      → 0 < length piece → 0 < f .used
+  byte-taken y f after q h = subst (λ (x : Stream.Fed Replay). 0 < x .used) q (feed-fine (sized r) stepOf (runOf r cells) (y .waits) piece [] h .1)
 
   over-promised : r .over ≡ true → Promised (record { refusal = 0; run = r; used = length piece; print = Nothing }) cells
   unfolding textOf Stream.feed
   over-promised e =
       let o = run-over r cells e in (
-        λ c z. record {
+        λ y. record {
+          passes = refl;
           feeds = ap (λ (x : Stream.Run Replay). Stream.feed (sized r) stepOf x piece) o ∙ ap (λ (x : Stream.Run Replay). record { run = x; used = length piece; prints = [] }) (sym o);
-          counted = c;
+          moves = λ h. h;
+          ready = y;
           settings-stay = refl;
         },
-        (λ h m. (refl, h), omega arith),
+        omega arith,
       )
 
   short-promised : length cells < r .filled + length new → Promised (record { refusal = outputShort; run = r; used = 0; print = Nothing }) cells
-  short-promised h = (λ c z. absurd (omega (arith, z)), (λ f m. absurd (omega (arith, h, room-enough r cells piece f m)), omega arith))
+  short-promised h = (λ y. absurd (omega (arith, h, room-enough r cells piece (y .inside) (y .room))), omega arith)
 
   room-promised : r .over ≡ false → r .filled + length new ≤ length cells
       → Promised (afterBytes r (held r cells ++ new) (length new) (recordAt (held r cells ++ new) (sized r))) (held r cells ++ new ++ drop (r .filled + length new) cells)
@@ -277,15 +292,25 @@ module _ (r : Run) (cells piece : List ℕ) where
   room-promised e h =
       let after = held r cells ++ new ++ drop (r .filled + length new) cells in
       let bytes = held r cells ++ new in
+      let f = afterBytes r bytes (length new) (recordAt bytes (sized r)) in
       let p = bytes-plain r bytes (length new) (recordAt bytes (sized r)) in (
-        λ c z.
-            let m = bytes-means r c after bytes (length new) (stand r cells new h) (recordAt bytes (sized r)) refl in
+        λ y.
+            let m = bytes-means r (y .some) (y .low) after bytes (length new) (stand r cells new h) (recordAt bytes (sized r)) refl in
+            let q = ap (λ (x : Stream.Run Replay). Stream.feed (sized r) stepOf x piece) (run-on r cells e) ∙ m .is in
             record {
-              feeds = ap (λ (x : Stream.Run Replay). Stream.feed (sized r) stepOf x piece) (run-on r cells e) ∙ m .is;
-              counted = m .counted;
+              passes = p .passes;
+              feeds = q;
+              moves = byte-taken y f after q;
+              ready = record {
+                some = subst (λ (g : VotingConfig). 1 ≤ votingLength g) (sym (m .settings-stay)) (y .some);
+                low = subst (λ (g : VotingConfig). f .run .accepted * votingLength g ≤ f .run .replay .next) (sym (m .settings-stay)) (m .low);
+                room = subst (λ (g : VotingConfig). 13 + bodyMost + votesSize g ≤ length after) (sym (m .settings-stay)) (omega (arith, y .room, same-room r cells new h));
+                inside = omega (arith, p .holds, h, same-room r cells new h);
+                waits = subst (λ (g : VotingConfig). Waiting (votesSize g) (runOf (f .run) after)) (sym (m .settings-stay)) (subst (λ (x : Stream.Fed Replay). Waiting (sized r) (x .run)) (m .is) (settled-waits (sized r) stepOf (recordAt bytes (sized r)) (r .replay) (r .accepted) bytes (length new) refl));
+              };
               settings-stay = m .settings-stay;
             },
-        (λ f m. (p .passes, omega (arith, p .holds, h)), omega (arith, p .takes, taken-most (missing (recordAt (held r cells) (sized r))) piece .1)),
+        omega (arith, p .takes, taken-most (missing (recordAt (held r cells) (sized r))) piece .1),
       )
 
   abbrev Here : Bool → Bool → Type 0
@@ -306,7 +331,7 @@ module _ (r : Run) (cells piece : List ℕ) where
   all-promised = here (r .over) refl (room r cells new) refl
 
   pub promised : (f : Fed) → f ≡ fedOf r cells piece → (after : List ℕ) → after ≡ cellsOf r cells piece
-      → (f ≡ fedOf r cells piece) × ((after ≡ cellsOf r cells piece) × ((Counted r → f .refusal ≡ 0 → Feeds r cells piece f after) × (Roomy r cells f × (f .used ≤ length piece))))
+      → (f ≡ fedOf r cells piece) × ((after ≡ cellsOf r cells piece) × ((Ready r cells → Feeds r cells piece f after) × (f .used ≤ length piece)))
   promised f p after q =
       (p, (q, subst (λ (x : Fed). Promised x after) (sym p) (subst (λ (x : List ℕ). Promised (fedOf r cells piece) x) (sym q) all-promised)))
 
@@ -321,7 +346,7 @@ took-inside n k l e = omega (arith, e, taken-most k l .1)
 
 abbrev Whole-promise : Run → List ℕ → List ℕ → Fed → List ℕ → Type 0
 Whole-promise r cells piece f after =
-    (f ≡ fedOf r cells piece) × ((after ≡ cellsOf r cells piece) × ((Counted r → f .refusal ≡ 0 → Feeds r cells piece f after) × (Roomy r cells f × (f .used ≤ length piece))))
+    (f ≡ fedOf r cells piece) × ((after ≡ cellsOf r cells piece) × ((Ready r cells → Feeds r cells piece f after) × (f .used ≤ length piece)))
 
 module _ (r : Run) (cells piece : List ℕ) (f : Fed) where
   pub feed-over : r .over ≡ true → f ≡ record { refusal = 0; run = r; used = length piece; print = Nothing } → Whole-promise r cells piece f cells
@@ -356,18 +381,24 @@ module _ (r : Run) (cells piece : List ℕ) (f : Fed) where
 
 -- ---- the other calls
 
+text-most : (p : Print) → length (textOf p) ≤ 47
+unfolding textOf
+text-most Nothing = omega arith
+text-most (Epoch e) = epoch-most (e .height) (e .fork)
+text-most (End e) = end-most (e .accepted) (e .refusal)
+
 module _ (p : Print) (cells : List ℕ) where
-  pub nothing-written : p ≡ Nothing → wrote 0 cells ≡ writes (textOf p) cells
+  pub nothing-written : p ≡ Nothing → (wrote 0 cells ≡ writes (textOf p) cells) × (length (textOf p) ≤ 47)
   unfolding writes textOf
-  nothing-written e = rw e (rw (le-leb 0 (length cells) (omega arith)))
+  nothing-written e = (rw e (rw (le-leb 0 (length cells) (omega arith))), text-most p)
 
-  pub epoch-written : (e : EpochPrint) → p ≡ Epoch e → (o : Outcome) → o ≡ writes (epochLine (e .height) (e .fork)) cells → o ≡ writes (textOf p) cells
+  pub epoch-written : (e : EpochPrint) → p ≡ Epoch e → (o : Outcome) → o ≡ writes (epochLine (e .height) (e .fork)) cells → (o ≡ writes (textOf p) cells) × (length (textOf p) ≤ 47)
   unfolding textOf
-  epoch-written e q o w = w ∙ ap (λ (x : Print). writes (textOf x) cells) (sym q)
+  epoch-written e q o w = (w ∙ ap (λ (x : Print). writes (textOf x) cells) (sym q), text-most p)
 
-  pub end-written : (e : EndPrint) → p ≡ End e → (o : Outcome) → o ≡ writes (endLine (e .accepted) (e .refusal)) cells → o ≡ writes (textOf p) cells
+  pub end-written : (e : EndPrint) → p ≡ End e → (o : Outcome) → o ≡ writes (endLine (e .accepted) (e .refusal)) cells → (o ≡ writes (textOf p) cells) × (length (textOf p) ≤ 47)
   unfolding textOf
-  end-written e q o w = w ∙ ap (λ (x : Print). writes (textOf x) cells) (sym q)
+  end-written e q o w = (w ∙ ap (λ (x : Print). writes (textOf x) cells) (sym q), text-most p)
 
 module _ (size : ℕ) (bytes : List ℕ) (x : RecordAt) (q : x ≡ recordAt bytes size) where
   pub missing-whole : (p : RecordPlace) → x ≡ Whole p → 0 ≡ missing (recordAt bytes size)

@@ -12,7 +12,7 @@ use Rattle.archive.specs.declared.record.RecordAt.{RecordAt}
 use Rattle.archive.specs.declared.record.RecordAt.the-variants.{Whole, Short, Malformed}
 use Rattle.archive.specs.Record.{taggedAt, withHeight, recordAt}
 use Rattle.archive.specs.Lines.{headLine, endLine}
-use Rattle.archive.specs.Stream.{Step, goes, stops, afterStep, afterRecord, printedFrom, printed, Run, running, over, Fed, stepped, settled, missing, feed, finish, fedWith, feedWhole, piecewise, joined}
+use Rattle.archive.specs.Stream.{Step, goes, stops, afterStep, afterRecord, printedFrom, printed, Run, running, over, Fed, stepped, settled, missing, feed, finish, fedWith, feedWhole, piecewise, joined, Waiting}
 use Rattle.archive.proofs.Laws.RecordTrip.{whole-stays, malformed-stays, whole-exact, whole-inside, short-room}
 
 -- the first bytes of a list, and the rest after them
@@ -97,22 +97,29 @@ module _ {S : Type 0} (size : ℕ) (step : S → List ℕ → Step S) where
       unfolding afterStep
       left-stops f g = left-whole ∙ rw g
 
-  -- a run waits for the rest of a record, or is over
-  abbrev Waiting : Run S → Type 0
-  Waiting (running s n bytes) = (k : ℕ) × (Short k ≡ recordAt bytes size)
-  Waiting over = Unit {0}
-
   abbrev remaining : Run S → List ℕ → List ℕ
   remaining (running s n bytes) input = left s n (bytes ++ input)
   remaining over input = []
 
   -- after some bytes of a piece: nothing of what is to be printed is lost
   abbrev Goes : List ℕ → Fed S → List ℕ → Type 0
-  Goes whole f rest = (whole ≡ f .prints ++ remaining (f .run) rest) × Waiting (f .run)
+  Goes whole f rest = (whole ≡ f .prints ++ remaining (f .run) rest) × Waiting size (f .run)
 
-  waits-empty : Short 3 ≡ recordAt [] size
+  pub waits-empty : Short 3 ≡ recordAt [] size
   unfolding recordAt withHeight taggedAt
   waits-empty = refl
+
+  -- a run waits again after every call
+  stepped-waits : (x : Step S) (n used : ℕ) → Waiting size (stepped x n used .run)
+  unfolding stepped
+  stepped-waits (goes t line) n used = (3, waits-empty)
+  stepped-waits (stops f) n used = tt
+
+  pub settled-waits : (r : RecordAt) (s : S) (n : ℕ) (bytes : List ℕ) (used : ℕ) → r ≡ recordAt bytes size → Waiting size (settled r step s n bytes used .run)
+  unfolding settled
+  settled-waits (Whole p) s n bytes used q = stepped-waits (step s bytes) n used
+  settled-waits (Short k) s n bytes used q = (k, q)
+  settled-waits Malformed s n bytes used q = tt
 
   step-goes : (x : Step S) (s : S) (n : ℕ) (bytes rest : List ℕ) (used : ℕ) → 0 < length bytes → (p : RecordPlace) → Whole p ≡ recordAt bytes size → p .end ≡ length bytes
       → step s bytes ≡ x → Goes (left s n (bytes ++ rest)) (stepped x n used) rest
@@ -168,14 +175,14 @@ module _ {S : Type 0} (size : ℕ) (step : S → List ℕ → Step S) where
         omega (arith, u, m .1),
       )
 
-  pub feed-fine : (run : Run S) → Waiting run → (piece more : List ℕ) → 0 < length piece → Fine run piece more
+  pub feed-fine : (run : Run S) → Waiting size run → (piece more : List ℕ) → 0 < length piece → Fine run piece more
   unfolding feed missing
   feed-fine (running s n bytes) (k, q) piece more h =
       fed s n bytes piece more k q h (feed size step (running s n bytes) piece) (rw (← q))
   feed-fine over w piece more h = ((refl, tt), h, omega arith)
 
   -- a whole piece
-  feed-whole : (k : ℕ) (run : Run S) → Waiting run → (piece more : List ℕ) → length piece ≤ k → Goes (remaining run (piece ++ more)) (feedWhole size step k run piece) more
+  feed-whole : (k : ℕ) (run : Run S) → Waiting size run → (piece more : List ℕ) → length piece ≤ k → Goes (remaining run (piece ++ more)) (feedWhole size step k run piece) more
   unfolding feedWhole fedWith
   feed-whole zero run w [] more h = (refl, w)
   feed-whole zero run w (b ∷ piece) more h = absurd (omega arith)
@@ -191,14 +198,14 @@ module _ {S : Type 0} (size : ℕ) (step : S → List ℕ → Step S) where
       )
 
   -- the end of the input
-  finished : (run : Run S) → Waiting run → remaining run [] ≡ finish run
+  finished : (run : Run S) → Waiting size run → remaining run [] ≡ finish run
   unfolding finish afterRecord
   finished (running s n []) w = left-none s n
   finished (running s n (b ∷ bytes)) (k, q) =
       left-some s n ((b ∷ bytes) ++ []) (omega arith) ∙ rw (append-nil bytes, ← q)
   finished over w = refl
 
-  all-pieces : (pieces : List (List ℕ)) (run : Run S) → Waiting run → remaining run (joined pieces) ≡ piecewise size step run pieces
+  all-pieces : (pieces : List (List ℕ)) (run : Run S) → Waiting size run → remaining run (joined pieces) ≡ piecewise size step run pieces
   unfolding piecewise joined
   all-pieces [] run w = finished run w
   all-pieces (piece ∷ pieces) run w =
