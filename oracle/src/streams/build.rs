@@ -96,9 +96,24 @@ pub struct Stream {
     state: State,
 }
 
+impl Default for Stream {
+    fn default() -> Stream {
+        Stream::new()
+    }
+}
+
 impl Stream {
     pub fn new() -> Stream {
-        Stream { bytes: Vec::new(), accepted: 0, state: open_mainnet() }
+        Stream::from_state(open_mainnet())
+    }
+
+    pub fn from_state(state: State) -> Stream {
+        Stream { bytes: Vec::new(), accepted: 0, state }
+    }
+
+    /// The state after the accepted records.
+    pub fn state(&self) -> &State {
+        &self.state
     }
 
     /// A record that is accepted next with these votes, if one is.

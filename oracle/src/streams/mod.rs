@@ -1,7 +1,7 @@
 //! Streams of records for program `replay`, with the lines that it prints for them.
 
 mod accepted;
-mod build;
+pub mod build;
 mod refused;
 
 use std::fs;

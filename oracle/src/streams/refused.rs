@@ -10,7 +10,10 @@ use crate::record::write_field;
 use crate::rules::Votes;
 
 pub fn cases() -> Vec<Case> {
-    [malformed(), cut(), heights(), header_votes(), barred(), bodies(), updates(), ordinary(), matches()].into_iter().flatten().collect()
+    [malformed(), cut(), heights(), header_votes(), barred(), bodies(), updates(), ordinary(), matches()]
+        .into_iter()
+        .flatten()
+        .collect()
 }
 
 /// Two accepted epochs: a round opens at 1,024, parameters 1 and 3 move at 2,048, and some headers of 2,048 vote for the fork.
@@ -67,7 +70,9 @@ fn malformed() -> Vec<Case> {
         refused("r25_tag_of_body", 25, |p| with_field(&p, 1, write_field(4, &p.body()))),
         refused("r25_tag_of_votes", 25, |p| with_field(&p, 2, write_field(2, &votes(&p)))),
         refused("r25_height_of_5_bytes", 25, |p| with_field(&p, 0, write_field(1, &[&[0], &height(&p)[..]].concat()))),
-        refused("r25_body_of_32769_bytes", 25, |p| with_field(&p, 1, write_field(2, &[p.body(), vec![0; 32_769 - p.body().len()]].concat()))),
+        refused("r25_body_of_32769_bytes", 25, |p| {
+            with_field(&p, 1, write_field(2, &[p.body(), vec![0; 32_769 - p.body().len()]].concat()))
+        }),
         refused("r25_votes_of_1023_headers", 25, |p| with_field(&p, 2, write_field(3, &votes(&p)[3..]))),
         refused("r25_before_26", 25, |p| with_field(&p.with_height(7), 2, write_field(4, &[0; 3072]))),
         byte_after("r25_byte_after", 0),
