@@ -22,7 +22,7 @@ pub struct State {
 }
 
 pub fn open(height: u32, table: Parameters) -> Result<State, Refusal> {
-    if height == 0 || height % LENGTH != 0 || height > LAST_HEIGHT {
+    if height == 0 || !height.is_multiple_of(LENGTH) || height > LAST_HEIGHT {
         return refuse(26);
     }
     Ok(State { next: height, table, tally: Tally::new() })

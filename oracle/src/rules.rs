@@ -116,7 +116,7 @@ pub fn mandatory(rule: u16) -> bool {
     voting::parse_validation_settings_update(&voting::encode_disabled_rules(&[rule])).is_err()
 }
 
-/// The computed table against the parameters of a body. The Rust takes height, version and updates for its log alone.
+/// The computed table against the parameters of a body. Height, version and updates have no part in the Rust's answer.
 pub fn match_parameters(computed: &Parameters, found: &Map) -> Result<(), Refusal> {
     Ok(checks::check_parameters_v6(computed, &table::from_map(found), 0, 0, &[], &[])?)
 }

@@ -20,7 +20,7 @@ pub fn bytes(word: &str) -> Vec<u8> {
     if word == EMPTY {
         return Vec::new();
     }
-    assert!(word.is_ascii() && word.len() % 2 == 0, "no bytes: {word}");
+    assert!(word.is_ascii() && word.len().is_multiple_of(2), "no bytes: {word}");
     let pair = |i| u8::from_str_radix(&word[i..i + 2], 16).unwrap_or_else(|_| panic!("no bytes: {word}"));
     (0..word.len()).step_by(2).map(pair).collect()
 }
