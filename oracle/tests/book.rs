@@ -1,9 +1,9 @@
 //! The round book of document 01, told from the calls alone, against the replay over the Rust.
 
-use ergo_lib::chain::parameters::Parameter;
+use ergo_lib::chain::parameters::{Parameter, Parameters};
 use oracle::replay::State;
-use oracle::rules::Votes;
-use oracle::streams::build::{headers, Stream, QUIET};
+use oracle::rules::{fork_check, mainnet, Votes};
+use oracle::streams::build::{headers, Stream, FORK, QUIET};
 use oracle::table::get;
 
 const LENGTH: u32 = 1_024;
@@ -81,6 +81,16 @@ fn epoch(numbers: &mut Numbers, eager: u64) -> Vec<Votes> {
     votes
 }
 
+/// Whether a fork vote is allowed at each height of the next epoch by the old table just where it is by the new one, with and
+/// without a fork vote of the boundary header.
+fn tables_agree(state: &State) -> bool {
+    let allowed = |table: &Parameters, height| fork_check(&mainnet(), height, FORK, table).expect("an answer");
+    [QUIET, FORK].into_iter().all(|boundary_header| {
+        let new = state.boundary(boundary_header, &[]).expect("a table");
+        (state.next..state.next + LENGTH).all(|height| allowed(&state.table, height) == allowed(&new, height))
+    })
+}
+
 /// Some 450 epochs, with refused records between them. Answers how often the version rose, and how many were refused.
 fn run(seed: u64, eager: u64) -> (i32, u32) {
     let mut numbers = Numbers(seed);
@@ -89,6 +99,7 @@ fn run(seed: u64, eager: u64) -> (i32, u32) {
     let mut refused = 0;
     for _ in 0..450 {
         let height = s.state().next;
+        assert!(tables_agree(s.state()), "seed {seed}, height {height}");
         let votes = epoch(&mut numbers, eager);
         let record = s.next(votes.clone()).bytes();
         let votes = match s.state().replay(&record) {
