@@ -375,6 +375,41 @@ fn chain_rows() {
     replay_row(&none, &epoch(&none, vec![]));
 }
 
+// One header of an epoch votes 120 where a round bars it, or just before or after: k is that header, and d how many heights after the epoch's
+// boundary the bar begins or ends. With 3 votes a round is not approved, with 11 it is.
+fn bar_rows() {
+    println!("# a fork vote at the edges of the heights where it is barred");
+    let g = SHORT;
+    let [from, to] = [g.vote_epochs, g.vote_epochs + g.activation_epochs + 1].map(|n| (g.length * n) as i32);
+    for (votes, edge) in [(3, from), (11, from), (3, from + g.length as i32), (11, to)] {
+        for d in -1..=4 {
+            let mut s = state(g, 4096);
+            (s.table[9], s.table[10]) = (Some(votes), Some(4096 + d - edge));
+            for k in 0..4 {
+                replay_row(&s, &epoch(&s, one_vote(k)));
+            }
+        }
+    }
+    println!("# other headers than the first: no round opens; barred by the new table alone, and by the old one alone");
+    chain(state(g, 4096), &[one_vote(1), one_vote(3)], &[]);
+    let no_epochs = state(settings(4, 0, 2, 0), 4096);
+    let (refusal, _) = replay_row(&no_epochs, &epoch(&no_epochs, voted(4, 2, [120, 0, 0])));
+    assert_eq!(refusal, 12);
+    chain(no_epochs, &[one_vote(0)], &[]);
+    let mut s = state(g, 4096);
+    (s.table[9], s.table[10]) = (Some(i32::MAX), Some(4096 - 16));
+    s.tally[0] = (120, 1);
+    let after = chain(s, &[one_vote(1)], &[]);
+    assert_eq!(after.table[10], None);
+}
+
+// Of four headers one votes 120.
+fn one_vote(k: usize) -> Vec<u8> {
+    let mut votes = quiet(4);
+    votes[3 * k] = 120;
+    votes
+}
+
 fn mainnet_rows() {
     println!("# epochs of mainnet, from an opening");
     let (_, s) = open(1024, &default_parameters(false));
@@ -474,6 +509,7 @@ fn print_rows() {
     open_rows();
     fault_rows();
     chain_rows();
+    bar_rows();
     mainnet_rows();
     all_line_rows();
     all_feed_rows();
