@@ -21,7 +21,8 @@ fn open_path(path: &[u8; 4096], n: usize) -> i32 {
     fd
 }
 
-// Runs a file to its end: whether it printed the lines. The turns are counted down from a number that no run uses up: nothing says that a file ends.
+// Runs a file to its end, and answers whether the lines were printed. The turns are counted down from a number that no run uses up: nothing
+// says that a file ends.
 fn run_stream(
     fd: i32,
     size: usize,
