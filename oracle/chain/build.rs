@@ -1,0 +1,3 @@
+fn main() {
+    source::lay_out("chain/src", &["config.rs", "error.rs", "voting.rs"]);
+}

@@ -1,0 +1,10 @@
+//! The Rust of the request, run: its answers by document 01's numbers, and a replay over it.
+
+pub mod lists;
+pub mod record;
+pub mod refusal;
+pub mod replay;
+pub mod rules;
+pub mod streams;
+pub mod table;
+mod text;

@@ -1,0 +1,46 @@
+//! `oracle lists FOLDER`, `oracle streams FOLDER`, `oracle replay`.
+
+use std::io::{self, Read, Write};
+use std::path::Path;
+use std::process::ExitCode;
+
+use oracle::{lists, replay, streams};
+
+fn main() -> io::Result<ExitCode> {
+    let arguments: Vec<String> = std::env::args().skip(1).collect();
+    match arguments.iter().map(String::as_str).collect::<Vec<_>>()[..] {
+        ["lists", folder] => run_lists(Path::new(folder)),
+        ["streams", folder] => write_streams(Path::new(folder)),
+        ["replay"] => replay_input(),
+        _ => {
+            eprintln!("oracle lists FOLDER | oracle streams FOLDER | oracle replay");
+            Ok(ExitCode::from(2))
+        }
+    }
+}
+
+/// Fails if a line of a list differs, or if there is no line.
+fn run_lists(folder: &Path) -> io::Result<ExitCode> {
+    let report = lists::run(folder)?;
+    report.differences.iter().for_each(|difference| println!("differs: {difference}"));
+    for ((file, function), (lines, agree)) in &report.counts {
+        println!("{file} {function}: {lines} lines, {agree} agree");
+    }
+    let (lines, agree) = report.sum();
+    println!("{lines} lines, {agree} agree");
+    Ok(if lines == agree && lines > 0 { ExitCode::SUCCESS } else { ExitCode::FAILURE })
+}
+
+fn write_streams(folder: &Path) -> io::Result<ExitCode> {
+    for line in streams::write(folder)? {
+        println!("{line}");
+    }
+    Ok(ExitCode::SUCCESS)
+}
+
+fn replay_input() -> io::Result<ExitCode> {
+    let mut bytes = Vec::new();
+    io::stdin().read_to_end(&mut bytes)?;
+    io::stdout().write_all(&replay::replay_stream(&bytes))?;
+    Ok(ExitCode::SUCCESS)
+}

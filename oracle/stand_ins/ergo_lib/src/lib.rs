@@ -1,0 +1,30 @@
+//! Stand-in for `ergo_lib`, as document 01 has it: a table of twelve entries, and a status of size, code and raw bytes.
+
+pub mod chain {
+    pub mod parameters;
+
+    pub mod ergo_state_context {
+        /// A name only.
+        #[derive(Debug)]
+        pub struct ErgoStateContext;
+    }
+
+    pub mod transaction {
+        /// A name only.
+        #[derive(Debug)]
+        pub struct Transaction;
+    }
+}
+
+pub mod ergotree_ir {
+    pub mod serialization;
+    pub mod validation;
+
+    pub mod chain {
+        pub mod ergo_box {
+            /// A name only.
+            #[derive(Debug)]
+            pub struct ErgoBox;
+        }
+    }
+}

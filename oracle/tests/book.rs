@@ -1,0 +1,129 @@
+//! The round book of document 01, told from the calls alone, against the replay over the Rust.
+
+use ergo_lib::chain::parameters::{Parameter, Parameters};
+use oracle::replay::State;
+use oracle::rules::{fork_check, mainnet, Votes};
+use oracle::streams::build::{headers, Stream, FORK, QUIET};
+use oracle::table::get;
+
+const LENGTH: u32 = 1_024;
+const VERSION_2_HEIGHT: u32 = 417_792;
+
+struct Book {
+    version: i32,
+    round: Option<(u32, i32)>,
+    before: Vec<Votes>,
+}
+
+fn votes_fork(votes: &Votes) -> bool {
+    votes.contains(&120)
+}
+
+impl Book {
+    fn accepted(&mut self, height: u32, votes: &[Votes]) {
+        if let Some((start, count)) = self.round {
+            let k = (height - start) / LENGTH;
+            let count = if k <= 32 { count + self.counted_before() } else { count };
+            self.round = Some((start, count));
+            let approved = count > 29_491;
+            if k == 64 && approved {
+                self.version += 1;
+            }
+            if (k == 33 && !approved) || k == 65 {
+                self.round = None;
+            }
+        }
+        if height == VERSION_2_HEIGHT && self.version == 1 {
+            self.version = 2;
+        }
+        if self.round.is_none() && votes_fork(&votes[0]) {
+            self.round = Some((height, 0));
+        }
+        self.before = votes.to_vec();
+    }
+
+    fn counted_before(&self) -> i32 {
+        match self.before.first() {
+            Some(first) if votes_fork(first) => self.before.iter().filter(|votes| votes_fork(votes)).count() as i32,
+            _ => 0,
+        }
+    }
+
+    fn agrees(&self, state: &State) -> bool {
+        let entry = |id| get(&state.table, id);
+        entry(Parameter::BlockVersion) == Some(self.version)
+            && entry(Parameter::SoftForkStartingHeight) == self.round.map(|(start, _)| start as i32)
+            && entry(Parameter::SoftForkVotesCollected) == self.round.map(|(_, count)| count)
+    }
+}
+
+/// Numbers that are the same at every run.
+struct Numbers(u64);
+
+impl Numbers {
+    fn below(&mut self, bound: u64) -> u64 {
+        self.0 = self.0.wrapping_mul(6_364_136_223_846_793_005).wrapping_add(1_442_695_040_888_963_407);
+        (self.0 >> 33) % bound
+    }
+}
+
+/// An epoch in which the boundary header votes for the fork in so many of 100 cases, and almost all others or some do.
+fn epoch(numbers: &mut Numbers, eager: u64) -> Vec<Votes> {
+    let fork = |slot: u64| match slot {
+        0 => [120, 0, 0],
+        1 => [0, 120, 0],
+        _ => [0, 0, 120],
+    };
+    let count = if numbers.below(100) < eager { 1_000 + numbers.below(24) } else { numbers.below(1_024) };
+    let mut votes: Vec<Votes> = (0..count).map(|_| fork(numbers.below(3))).collect();
+    votes.insert(0, if numbers.below(100) < eager { fork(0) } else { QUIET });
+    votes.resize(LENGTH as usize, QUIET);
+    votes
+}
+
+/// Whether a fork vote is allowed at each height of the next epoch by the old table just where it is by the new one, with and
+/// without a fork vote of the boundary header.
+fn tables_agree(state: &State) -> bool {
+    let allowed = |table: &Parameters, height| fork_check(&mainnet(), height, FORK, table).expect("an answer");
+    [QUIET, FORK].into_iter().all(|boundary_header| {
+        let new = state.boundary(boundary_header, &[]).expect("a table");
+        (state.next..state.next + LENGTH).all(|height| allowed(&state.table, height) == allowed(&new, height))
+    })
+}
+
+/// Some 450 epochs, with refused records between them. Answers how often the version rose, and how many were refused.
+fn run(seed: u64, eager: u64) -> (i32, u32) {
+    let mut numbers = Numbers(seed);
+    let mut s = Stream::new();
+    let mut book = Book { version: 1, round: None, before: Vec::new() };
+    let mut refused = 0;
+    for _ in 0..450 {
+        let height = s.state().next;
+        assert!(tables_agree(s.state()), "seed {seed}, height {height}");
+        let votes = epoch(&mut numbers, eager);
+        let record = s.next(votes.clone()).bytes();
+        let votes = match s.state().replay(&record) {
+            Ok(_) => votes,
+            Err(refusal) => {
+                assert_eq!(refusal.number, 12);
+                refused += 1;
+                headers(&[])
+            }
+        };
+        s.epoch(votes.clone());
+        book.accepted(height, &votes);
+        assert!(book.agrees(s.state()), "seed {seed}, height {height}");
+    }
+    assert!(s.state().next > VERSION_2_HEIGHT);
+    (book.version, refused)
+}
+
+#[test]
+fn book_and_replay_agree() {
+    let found: Vec<(i32, u32)> =
+        [(1, 100), (2, 99), (3, 96), (4, 90), (5, 50), (6, 5)].into_iter().map(|(seed, eager)| run(seed, eager)).collect();
+    // Rounds that were approved, rounds that failed, and records that were refused all occur.
+    assert!(found.iter().any(|&(version, _)| version > 3), "{found:?}");
+    assert!(found.iter().any(|&(version, _)| version == 2), "{found:?}");
+    assert!(found.iter().all(|&(_, refused)| refused > 0), "{found:?}");
+}

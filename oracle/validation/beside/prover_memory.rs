@@ -1,0 +1,2 @@
+// Stand-in. Not run: names only.
+pub struct ProverMemoryEstimate;

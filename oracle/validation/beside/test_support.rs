@@ -1,0 +1,1 @@
+// Stand-in. Empty: the tests of the Rust are not here.

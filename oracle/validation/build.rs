@@ -1,0 +1,3 @@
+fn main() {
+    source::lay_out("validation/src", &["lib.rs", "voting.rs"]);
+}
