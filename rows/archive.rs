@@ -163,7 +163,8 @@ fn damaged_records() {
         read_row(size, &whole);
     }
     let [height, body, votes] = [field(1, &[0, 0, 4, 0]), field(2, &[]), field(3, &[0; 3])];
-    for fields in [[&height, &votes, &body], [&body, &height, &votes], [&votes, &body, &height], [&height, &height, &votes], [&height, &body, &body]] {
+    let (h, b, v) = (&height, &body, &votes);
+    for fields in [[h, v, b], [b, h, v], [v, b, h], [h, h, v], [h, b, b]] {
         read_row(3, &fields.map(|f| &f[..]).concat());
     }
     read_row(3, &[&height[..], &votes].concat());
@@ -203,7 +204,8 @@ fn header_rows() {
 
 fn open_rows() {
     println!("# edges: heights of an opening");
-    let heights = [0, 1, 1023, 1024, 1025, 2048, 3000, 417792, 2147481600, 2147482623, 2147482624, 2147482625, 2147483648, 4294966272, u32::MAX];
+    let most = 2147482624;
+    let heights = [0, 1, 1023, 1024, 1025, 2048, 3000, 417792, most - 1024, most - 1, most, most + 1, most + 1024, 4294966272, u32::MAX];
     let tables = [default_parameters(false), default_parameters(true), [None; 12], std::array::from_fn(|i| Some(-(i as i32)))];
     for t in tables {
         heights.iter().for_each(|h| open_row(*h, &t));
@@ -375,8 +377,8 @@ fn chain_rows() {
     replay_row(&none, &epoch(&none, vec![]));
 }
 
-// One header of an epoch votes 120 where a round bars it, or just before or after: k is that header, and d how many heights after the epoch's
-// boundary the bar begins or ends. With 3 votes a round is not approved, with 11 it is.
+// One header of an epoch votes 120 where a round bars it, or just before or after: k is that header, and d how many heights after the
+// epoch's boundary the bar begins or ends. With 3 votes a round is not approved, with 11 it is.
 fn bar_rows() {
     println!("# a fork vote at the edges of the heights where it is barred");
     let g = SHORT;
