@@ -111,6 +111,11 @@ pub fn put_u64(out: &mut [u8], at: usize, n: u64) -> usize {
     put_u32(out, next, (n % 0x1_0000_0000) as u32)
 }
 
+// Two numbers one after another are one of twice the width.
+pub fn put_two(out: &mut [u8], at: usize, a: u32, b: u32) -> usize {
+    put_u64(out, at, (a as u64) * 0x1_0000_0000 + (b as u64))
+}
+
 // What is larger than four bytes hold is their largest number.
 pub fn put_count(out: &mut [u8], at: usize, n: usize) -> usize {
     if n < 0xffff_ffff {

@@ -1,4 +1,4 @@
-// Tables, tallies and settings in an input; tables, and what a writer answered, in an answer. docs/VECTORS.md has how each is written.
+// Tables, tallies and settings in an input and in an answer; what a writer answered, in an answer. docs/VECTORS.md has how each is written.
 use crate::bytes;
 use codec::output::Wrote;
 use codec::signed;
@@ -122,6 +122,22 @@ pub fn put_table(out: &mut [u8], at: usize, t: Table) -> usize {
     let fork = t.fork;
     let next = put_ordinary(out, at, ordinary);
     put_fork(out, next, fork)
+}
+
+pub fn put_config(out: &mut [u8], at: usize, c: VotingConfig) -> usize {
+    let next = bytes::put_two(out, at, c.voting_length, c.soft_fork_epochs);
+    bytes::put_two(out, next, c.activation_epochs, c.version2_activation_height)
+}
+
+fn put_entry(out: &mut [u8], at: usize, e: Entry) -> usize {
+    let next = bytes::put(out, at, signed::bits_i8(e.id));
+    bytes::put_u32(out, next, e.count)
+}
+
+pub fn put_tally(out: &mut [u8], at: usize, t: Tally) -> usize {
+    let second = put_entry(out, at, t.first);
+    let third = put_entry(out, second, t.second);
+    put_entry(out, third, t.third)
 }
 
 // What a call answered that writes into a lent buffer, at the answer's start; its cells stand behind it, up to an end.

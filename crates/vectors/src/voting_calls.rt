@@ -16,8 +16,6 @@ use voting::settings::VotingConfig;
 use voting::table;
 use voting::table::Table;
 use voting::tally;
-use voting::tally::Entry;
-use voting::tally::Tally;
 
 // What stands in an input at a position.
 fn round_in(s: &[u8], at: usize) -> Round {
@@ -42,17 +40,6 @@ fn votes_at(s: &[u8], at: usize) -> [u8; 3] {
 }
 
 // What an answer has at a position, and the position after it.
-fn put_entry(out: &mut [u8], at: usize, e: Entry) -> usize {
-    let next = bytes::put(out, at, signed::bits_i8(e.id));
-    bytes::put_u32(out, next, e.count)
-}
-
-fn put_tally(out: &mut [u8], at: usize, t: Tally) -> usize {
-    let second = put_entry(out, at, t.first);
-    let third = put_entry(out, second, t.second);
-    put_entry(out, third, t.third)
-}
-
 // A refusal or 0 before a table, and before what happens to a round.
 fn put_refused_table(out: &mut [u8], refusal: u8, t: Table) -> usize {
     let next = bytes::put(out, 0, refusal);
@@ -91,7 +78,7 @@ pub fn tally_votes_seeded(s: &[u8], out: &mut [u8]) -> usize {
     let r = tally::tally_votes_seeded(first, &s[12..], boundary, length);
     let t = r.tally;
     let next = bytes::put(out, 0, r.refusal);
-    put_tally(out, next, t)
+    values::put_tally(out, next, t)
 }
 
 pub fn fork_count(s: &[u8], out: &mut [u8]) -> usize {
@@ -281,11 +268,6 @@ pub fn with_subblocks(s: &[u8], out: &mut [u8]) -> usize {
     )
 }
 
-// Two numbers one after another are one of twice the width.
-fn joined(a: u32, b: u32) -> u64 {
-    (a as u64) * 0x1_0000_0000 + (b as u64)
-}
-
 fn config_of(testnet: bool) -> VotingConfig {
     if testnet {
         return VotingConfig::testnet();
@@ -297,13 +279,7 @@ pub fn config(s: &[u8], out: &mut [u8]) -> usize {
     if s.len() != 1 {
         return NO_ANSWER;
     }
-    let c = config_of(bytes::flag_at(s, 0));
-    let next = bytes::put_u64(out, 0, joined(c.voting_length, c.soft_fork_epochs));
-    bytes::put_u64(
-        out,
-        next,
-        joined(c.activation_epochs, c.version2_activation_height),
-    )
+    values::put_config(out, 0, config_of(bytes::flag_at(s, 0)))
 }
 
 // How many headers got each answer so far, and the FNV-1a hash of the answers.
@@ -362,7 +338,7 @@ pub fn all_header_votes(s: &[u8], out: &mut [u8]) -> usize {
         return NO_ANSWER;
     }
     let c = all_headers();
-    let second = bytes::put_u64(out, 0, joined(c.legal, c.too_many));
-    let third = bytes::put_u64(out, second, joined(c.repeated, c.contradictory));
+    let second = bytes::put_two(out, 0, c.legal, c.too_many);
+    let third = bytes::put_two(out, second, c.repeated, c.contradictory);
     bytes::put_u64(out, third, c.hash)
 }
