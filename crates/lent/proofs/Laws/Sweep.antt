@@ -1,6 +1,6 @@
 -- The boundary in one pass: the ways through the code, the entries one at a time, and that the pass gives the boundary of the rules.
 -- Assumes nothing.
-use mathlib.Core.Path.{_≡_, refl, sym, ap, ap₂, _∙_}
+use mathlib.Core.Path.{_≡_, refl, ap, _∙_}
 use mathlib.Core.Bool.{Bool, true, false, not, cond, _&&_}
 use mathlib.Core.List.{List, [], _∷_}
 use Prim.Native.Nat.{ℕ, _+_, _≤_, _<_}
@@ -34,7 +34,6 @@ use Rattle.voting.proofs.Laws.Integers.{is-number}
 use Rattle.voting.proofs.Laws.Table.{known-range}
 use Rattle.voting.proofs.Laws.Boundary.{gate-stop, gate-pass}
 use Rattle.extension.specs.declared.update.ParsedUpdate.{ParsedUpdate}
-use Rattle.extension.specs.declared.boundary.Computed.{Computed}
 use Rattle.extension.specs.Update.{noUpdate, updateOf, disables}
 use Rattle.extension.specs.Boundary.{activates, withUpdate, computedOf}
 use Rattle.lent.specs.declared.boundary.BoundaryAt.{BoundaryAt}
@@ -191,7 +190,7 @@ onward-assoc v k l = go (eqb (v .refusal) 0) refl
   where
     go : (b : Bool) → eqb (v .refusal) 0 ≡ b
         → cond (eqb (cond b (k (v .table)) v .refusal) 0) (l (cond b (k (v .table)) v .table)) (cond b (k (v .table)) v)
-          ≡ cond b (cond (eqb (k (v .table) .refusal) 0) (l (k (v .table) .table)) (k (v .table))) v
+        ≡ cond b (cond (eqb (k (v .table) .refusal) 0) (l (k (v .table) .table)) (k (v .table))) v
     go true q = refl
     go false q = rw q
 
@@ -238,7 +237,7 @@ voted-beside g t f e new = go (counts g e) (known (parameter (e .id))) refl
 
     go : (b k : Bool) → known (parameter (e .id)) ≡ k
         → cond b (cond k (writes (e .id) (withFork new f) (lookup (withFork t f) (parameter (e .id)))) (stops (withFork new f) unknownParameter)) (passes (withFork new f))
-          ≡ beside f (cond b (cond k (writes (e .id) new (lookup t (parameter (e .id)))) (stops new unknownParameter)) (passes new))
+        ≡ beside f (cond b (cond k (writes (e .id) new (lookup t (parameter (e .id)))) (stops new unknownParameter)) (passes new))
     go false k q = refl
     go true false q = refl
     go true true q = ap (writes (e .id) (withFork new f)) (lookup-beside t f (parameter (e .id)) q) ∙ written (lookup t (parameter (e .id))) q
@@ -267,7 +266,7 @@ fork-finished s r f es e = rw (votes-beside (s .at .config) (s .at .table) (f .f
 
 boundary-finished : (s : Sweep) (es : List Entry) → s .votes ≡ firstCount (pos 120) es → s .voted ≡ ordinaryVotes (s .at .config) (s .at .table) es (s .at .table)
     → finishedRound s (roundAt (s .at .config) (s .at .height) (s .at .vote) (s .votes) (s .at .table .fork))
-      ≡ boundaryOf (s .at .config) (s .at .height) (s .at .table) es (s .at .vote) (s .disables)
+    ≡ boundaryOf (s .at .config) (s .at .height) (s .at .table) es (s .at .vote) (s .disables)
 unfolding finishedRound boundaryOf afterRound
 boundary-finished s es n e =
     let r = roundAt (s .at .config) (s .at .height) (s .at .vote) (firstCount (pos 120) es) (s .at .table .fork) in
