@@ -4,12 +4,39 @@ use voting::header;
 use voting::settings::VotingConfig;
 use voting::table::Table;
 ghost use mathlib.Core.Path.{_≡_};
+ghost use mathlib.Core.Bool.{false};
 ghost use Prim.Native.Nat.{_+_, _/_, _≤_};
+ghost use lib.Dec.{eqb};
 ghost use lib.ListN.{length};
+ghost use Rattle.voting.specs.Common.{count};
 ghost use Rattle.archive.specs.Headers.{checkHeaders, checkForkVotes};
 
 // The header check of every header in order: 9, 10 or 11 of the first that is not legal, or 0. One or two bytes left over are no header.
 pub fn check_headers(votes: &[u8]) -> u8
+    ensures { λ r. ⌜ r ≡ checkHeaders (now (votes .entry)) ⌝ }
+{
+    if any_illegal(votes) {
+        return first_illegal(votes);
+    }
+    0
+}
+
+// Whether a header is illegal. The loop goes to its end in any case: that is quicker than a way out of it.
+fn any_illegal(votes: &[u8]) -> bool
+    ensures { λ r. ⌜ (r ≡ false → 0 ≡ checkHeaders (now (votes .entry))) ⌝ }
+{
+    let n = votes.len() / 3;
+    let mut found = false;
+    let mut i: usize = 0;
+    while i < n {
+        let at = 3 * i;
+        found = found | header::is_illegal(votes[at], votes[at + 1], votes[at + 2]);
+        i += 1;
+    }
+    found
+}
+
+fn first_illegal(votes: &[u8]) -> u8
     ensures { λ r. ⌜ r ≡ checkHeaders (now (votes .entry)) ⌝ }
 {
     let n = votes.len() / 3;
@@ -27,6 +54,32 @@ pub fn check_headers(votes: &[u8]) -> u8
 
 // The fork check of every header in order, the first at this height: 12, 18 or 19 of the first that is not allowed, or 0.
 pub(crate) fn check_fork_votes(config: VotingConfig, table: Table, height: u32, votes: &[u8]) -> u8
+    requires { ⌜ height + length (now votes) / 3 ≤ 4294967295 ⌝ }
+    ensures { λ r. ⌜ r ≡ checkForkVotes config table height (now (votes .entry)) ⌝ }
+{
+    if config.settings_large() {
+        return first_barred(config, table, height, votes);
+    }
+    if any_fork_vote(votes) {
+        return first_barred(config, table, height, votes);
+    }
+    0
+}
+
+// Whether a byte is the vote for the fork; as above without a way out.
+fn any_fork_vote(votes: &[u8]) -> bool
+    ensures { λ r. ⌜ (r ≡ false → count (eqb 120) (now (votes .entry)) ≡ 0) ⌝ }
+{
+    let mut found = false;
+    let mut i: usize = 0;
+    while i < votes.len() {
+        found = found | (votes[i] == header::SOFT_FORK_VOTE);
+        i += 1;
+    }
+    found
+}
+
+fn first_barred(config: VotingConfig, table: Table, height: u32, votes: &[u8]) -> u8
     requires { ⌜ height + length (now votes) / 3 ≤ 4294967295 ⌝ }
     ensures { λ r. ⌜ r ≡ checkForkVotes config table height (now (votes .entry)) ⌝ }
 {

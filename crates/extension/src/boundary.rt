@@ -49,7 +49,8 @@ pub fn boundary_with_update(
     )
 }
 
-fn refused(refusal: u8, table: Table) -> Computed
+// For the layers above: a refused boundary.
+pub fn refused(refusal: u8, table: Table) -> Computed
     ensures { λ r. ⌜ r ≡ record { refusal = refusal; table = table; round = noRound; activated = noUpdate } ⌝ }
 {
     Computed {
@@ -65,8 +66,8 @@ fn refused(refusal: u8, table: Table) -> Computed
     }
 }
 
-// The update is activated where the round raises the version.
-fn activates(u: Update, b: Boundary) -> Computed
+// For the layers above: the update is activated where the round raises the version.
+pub fn activates(u: Update, b: Boundary) -> Computed
     ensures { λ r. ⌜ r ≡ activates u b ⌝ }
 {
     let refusal = b.refusal;

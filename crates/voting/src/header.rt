@@ -61,6 +61,23 @@ fn vote_fault(v: u8, a: u8, b: u8, c: u8) -> u8
     0
 }
 
+// Whether something is wrong with it.
+fn is_faulty(v: u8, a: u8, b: u8, c: u8) -> bool
+    ensures { λ r. ⌜ r ≡ not (eqb (cond (eqb v 0) 0 (fault (votesIn (a ∷ b ∷ c ∷ [])) (signedOf 8 v))) 0) ⌝ }
+{
+    (v != 0) & ((1 < times(v, a, b, c)) | (0 < times(negated(v), a, b, c)))
+}
+
+// For the layers above: whether a header's votes are turned down, by a test without branches.
+pub fn is_illegal(a: u8, b: u8, c: u8) -> bool
+    ensures { λ r. ⌜ r ≡ not (eqb (checkHeaderVotes (a ∷ b ∷ c ∷ [])) 0) ⌝ }
+{
+    (PARAM_VOTES_COUNT < ordinary(a, b, c))
+        | is_faulty(a, a, b, c)
+        | is_faulty(b, a, b, c)
+        | is_faulty(c, a, b, c)
+}
+
 fn first_of(x: u8, y: u8) -> u8
     ensures { λ r. ⌜ r ≡ first x y ⌝ }
 {

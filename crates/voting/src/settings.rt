@@ -67,8 +67,8 @@ impl VotingConfig {
         self.voting_length / 2 < votes
     }
 
-    // A length or a number of epochs is too large to be taken.
-    pub(crate) fn settings_large(self) -> bool
+    // For the layers above: a length or a number of epochs is too large to be taken.
+    pub fn settings_large(self) -> bool
         ensures { λ r. ⌜ r ≡ settingsLarge self ⌝ }
     {
         (65535 < self.voting_length)

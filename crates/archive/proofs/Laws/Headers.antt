@@ -1,19 +1,25 @@
 -- The headers that are left, one at a time.
 -- Assumes nothing.
-use mathlib.Core.Path.{_≡_, refl, sym}
+use mathlib.Core.Path.{_≡_, refl, sym, ap, _∙_}
+use mathlib.Core.Bool.{Bool, true, false, cond, not, _||_, true≢false}
 use mathlib.Core.List.{List, [], _∷_}
 use Prim.Native.Nat.{ℕ, suc, _+_, _*_, _/_, _≤_, _<_}
 use native.Mathlib.Numerals.{add-one, add-two, add-three}
 use native.Mathlib.Omega.{arith}
+use borrow.Author.Tests.{eqb-true, eqb-false, ne-eqb}
+use lib.Dec.{eqb}
 use lib.ListN.{length, getD, drop, length-drop}
 use lib.Seq.{drop-cons}
 use Rattle.voting.specs.declared.settings.VotingConfig.{VotingConfig}
 use Rattle.voting.specs.declared.table.Table.{Table}
-use Rattle.voting.specs.Header.{checkHeaderVotes}
+use Rattle.voting.specs.Common.{count, first}
+use Rattle.voting.specs.Settings.{settingsLarge}
+use Rattle.voting.specs.Header.{checkHeaderVotes, votesFor}
 use Rattle.voting.specs.Tally.{headers}
 use Rattle.voting.specs.ForkCheck.{checkForkVote, forkRefusal}
 use Rattle.voting.proofs.Laws.Header.{first-pass, first-stop}
-use Rattle.archive.specs.Headers.{headersRefusal, forkRefusals}
+use Rattle.voting.proofs.Laws.Tally.{count-here, count-end}
+use Rattle.archive.specs.Headers.{headersRefusal, checkHeaders, forkRefusals}
 
 -- the three bytes of the header at an index
 abbrev pub headerAt : List ℕ → ℕ → List ℕ
@@ -71,3 +77,53 @@ module _ (s : List ℕ) (i : ℕ) where
       pub forks-pass : e ≡ 0 → forkRefusals g t (height + 1) (headers (drop (3 * (i + 1)) s)) ≡ forkRefusals g t height (headers (drop (3 * i) s))
       unfolding forkRefusals
       forks-pass z = rw (headers-here h, ← is-e) (sym (first-pass e _ z))
+
+-- ---- the quick way: nothing is found in a sweep over all of it
+found-left : (p q : Bool) → p || q ≡ false → p ≡ false
+found-left true q e = e
+found-left false q e = refl
+
+found-right : (p q : Bool) → p || q ≡ false → q ≡ false
+found-right true q e = absurd (true≢false e)
+found-right false q e = e
+
+not-found : (e : ℕ) → not (eqb e 0) ≡ false → e ≡ 0
+not-found e q = eqb-true e 0 (go (eqb e 0) q)
+  where
+    go : (b : Bool) → not b ≡ false → b ≡ true
+    go true x = refl
+    go false x = absurd (true≢false x)
+
+-- the header check: one header further
+module _ (s : List ℕ) (i : ℕ) (found : Bool) where
+  pub illegal-on : i < length s / 3 → (found ≡ false → headersRefusal (headers (drop (3 * i) s)) ≡ headersRefusal (headers s))
+      → (r : Bool) → r ≡ not (eqb (checkHeaderVotes (headerAt s i)) 0) → found || r ≡ false → headersRefusal (headers (drop (3 * (i + 1)) s)) ≡ headersRefusal (headers s)
+  illegal-on h inv r is-r q = checks-pass s i h (checkHeaderVotes (headerAt s i)) refl (not-found (checkHeaderVotes (headerAt s i)) (sym is-r ∙ found-right found r q)) ∙ inv (found-left found r q)
+
+  pub illegal-end : length s / 3 ≤ i → (found ≡ false → headersRefusal (headers (drop (3 * i) s)) ≡ headersRefusal (headers s)) → found ≡ false → 0 ≡ checkHeaders s
+  unfolding checkHeaders
+  illegal-end h inv q = checks-end s i h ∙ inv q
+
+  -- a vote for the fork: one byte further
+  pub fork-on : i < length s → (found ≡ false → count (eqb 120) (drop i s) ≡ count (eqb 120) s) → found || eqb (getD s i 0) 120 ≡ false → count (eqb 120) (drop (i + 1) s) ≡ count (eqb 120) s
+  fork-on h inv q =
+      let b : eqb 120 (getD s i 0) ≡ false = ne-eqb 120 (getD s i 0) (λ z. eqb-false (getD s i 0) 120 (found-right found (eqb (getD s i 0) 120) q) (sym z)) in
+      let k : _≡_ {A = ℕ} (cond (eqb 120 (getD s i 0)) 1 0) 0 = ap (λ (x : Bool). cond x 1 0) b in
+      omega (arith, k, count-here (eqb 120) s i h, inv (found-left found (eqb (getD s i 0) 120) q))
+
+  pub fork-end : length s ≤ i → (found ≡ false → count (eqb 120) (drop i s) ≡ count (eqb 120) s) → found ≡ false → count (eqb 120) s ≡ 0
+  fork-end h inv q = sym (inv q) ∙ count-end (eqb 120) s i h
+
+-- without a vote for the fork every header is allowed
+quiet-header : (g : VotingConfig) (height : ℕ) (h : List ℕ) (t : Table) → settingsLarge g ≡ false → count (eqb 120) h ≡ 0 → forkRefusal (checkForkVote g height h t) ≡ 0
+unfolding checkForkVote forkRefusal votesFor
+quiet-header g height h t l z = rw (l, z)
+
+pub quiet-forks : (g : VotingConfig) (t : Table) → settingsLarge g ≡ false → (votes : List ℕ) (height : ℕ) → count (eqb 120) votes ≡ 0 → 0 ≡ forkRefusals g t height (headers votes)
+unfolding forkRefusals headers count first
+quiet-forks g t l [] height z = refl
+quiet-forks g t l (a ∷ []) height z = refl
+quiet-forks g t l (a ∷ b ∷ []) height z = refl
+quiet-forks g t l (a ∷ b ∷ c ∷ votes) height z =
+    let q = quiet-header g height (a ∷ b ∷ c ∷ []) t l (omega (arith, z)) in
+    rw q (quiet-forks g t l votes (height + 1) (omega (arith, z)))

@@ -1,0 +1,18 @@
+-- `lent::boundary::begun` meets its contract. Assumes nothing.
+use Rattle.lent.proofs.Laws.Sweep.{begins}
+use borrow.Author.Needs.{needs}
+use Rattle.lent.proofs.boundary.begun.Statement.{statement}
+use Rattle.lent.proofs.boundary.begun.Tie as tie
+
+parse-validation-settings-update-requires : tie.Need-parse-validation-settings-update-requires
+parse-validation-settings-update-requires c κs = search needs
+
+disables-requires : tie.Need-disables-requires
+disables-requires c κs = search needs
+
+returns : tie.Need-returns
+returns c = begins _ _ _ (c .before .before .before .parse-validation-settings-update .ensures .0) _ (c .before .disables .ensures)
+
+pub begun-spec : {M : Type 1} → statement M
+begun-spec =
+    tie.close (tie.spec parse-validation-settings-update-requires disables-requires returns)

@@ -1,0 +1,50 @@
+-- A reader that holds a body and a position. docs/RULES.md, "Extension body and match".
+-- Assumes nothing.
+use Prim.Native.Nat.{ℕ, zero, suc}
+use mathlib.Core.Path.{_≡_}
+use mathlib.Core.List.{List, [], _∷_}
+use Rattle.extension.specs.declared.body.FieldPlace.{FieldPlace}
+use Rattle.extension.specs.declared.body.FieldAt.{FieldAt}
+use Rattle.extension.specs.declared.body.FieldAt.the-variants.{HasField, NoField}
+use Rattle.extension.specs.Section.{listing, items, part}
+use Rattle.extension.specs.Body.{Field, readField, extensionOf, fieldsOf, bodyField, fieldValue}
+use Rattle.lent.specs.declared.reader.Cursor.{Cursor}
+use Rattle.lent.specs.declared.reader.NextField.{NextField}
+use Rattle.lent.specs.declared.reader.NextField.the-variants.{Found, Refused, Done}
+
+-- before the first field; no field is left of a body that is refused
+unfoldable pub cursorOf : List ℕ → Cursor
+cursorOf body = record { at = extensionOf body .section .begin; left = extensionOf body .section .count }
+
+unfoldable pub afterField : ℕ → FieldAt → NextField
+afterField left (HasField f) = Found (record { place = f; cursor = record { at = f .end; left = left } })
+afterField left (NoField e) = Refused e
+
+-- the field at the cursor, and the cursor after it
+unfoldable pub nextBy : List ℕ → ℕ → ℕ → NextField
+nextBy body at zero = Done
+nextBy body at (suc left) = afterField left (bodyField body at)
+
+unfoldable pub nextOf : List ℕ → Cursor → NextField
+nextOf body c = nextBy body (c .at) (c .left)
+
+-- its value; nothing where no field is left
+unfoldable pub valueBy : List ℕ → ℕ → ℕ → List ℕ
+valueBy body at zero = []
+valueBy body at (suc left) = fieldValue body at
+
+unfoldable pub valueAt : List ℕ → Cursor → List ℕ
+valueAt body c = valueBy body (c .at) (c .left)
+
+-- the fields from a cursor on
+unfoldable pub fieldsLeft : List ℕ → Cursor → List Field
+fieldsLeft body c = items (listing (readField body) (c .left) (c .at))
+
+abbrev pub fieldOf : List ℕ → FieldPlace → Field
+fieldOf body f = record { key0 = f .key0; key1 = f .key1; value = part body (f .start) (f .end) }
+
+-- what was read is the first of the fields that were left, and the others are left
+unfoldable pub Reads : List ℕ → Cursor → NextField → Type 0
+Reads body c (Found x) = fieldsLeft body c ≡ fieldOf body (x .place) ∷ fieldsLeft body (x .cursor)
+Reads body c (Refused e) = fieldsLeft body c ≡ []
+Reads body c Done = fieldsLeft body c ≡ []
