@@ -4,6 +4,7 @@ use archive::replay;
 use archive::replay::Replay;
 use archive_answers::replay_calls;
 use rows::values;
+ghost use Rattle.exports.specs.Kept.{Kept};
 
 // No call has this number.
 const NO_CALL: usize = 0xffff_fffe;
@@ -34,7 +35,9 @@ pub extern "C" fn ergo_voting_answer(call: u8, input: &[u8], out: &mut [u8]) -> 
     NO_CALL
 }
 
-fn put_state(state: &mut [u8], x: Replay) -> u8 {
+fn put_state(state: &mut [u8], x: Replay) -> u8
+    ensures { λ r. ⌜ Kept r (now (state .entry)) (now (state .exit)) ⌝ }
+{
     if state.len() < STATE {
         return OUTPUT_TOO_SHORT;
     }
@@ -45,7 +48,9 @@ fn put_state(state: &mut [u8], x: Replay) -> u8 {
 // Opens a replay: a height, a table of 60 bytes, and room for a state of 95. 0, or the number of the refusal; 21 where the table or the
 // state is shorter. A refused call changes no cell.
 #[no_mangle]
-pub extern "C" fn ergo_open(height: u32, table: &[u8], state: &mut [u8]) -> u8 {
+pub extern "C" fn ergo_open(height: u32, table: &[u8], state: &mut [u8]) -> u8
+    ensures { λ r. ⌜ Kept r (now (state .entry)) (now (state .exit)) ⌝ }
+{
     if table.len() < TABLE {
         return OUTPUT_TOO_SHORT;
     }
@@ -60,7 +65,9 @@ pub extern "C" fn ergo_open(height: u32, table: &[u8], state: &mut [u8]) -> u8 {
 // Replays a record on a state of 95 bytes, which becomes the state after it. 0, or the number of the refusal; 21 where the state is
 // shorter. The id of 15, else 0, goes to id. A refused call leaves the state as it was.
 #[no_mangle]
-pub extern "C" fn ergo_replay(state: &mut [u8], record: &[u8], id: &mut u8) -> u8 {
+pub extern "C" fn ergo_replay(state: &mut [u8], record: &[u8], id: &mut u8) -> u8
+    ensures { λ r. ⌜ Kept r (now (state .entry)) (now (state .exit)) ⌝ }
+{
     *id = 0;
     if state.len() < STATE {
         return OUTPUT_TOO_SHORT;
