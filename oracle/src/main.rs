@@ -1,19 +1,20 @@
-//! `oracle lists FOLDER`, `oracle streams FOLDER`, `oracle replay`.
+//! `oracle lists FOLDER`, `oracle streams FOLDER`, `oracle rows FOLDER`, `oracle replay`.
 
 use std::io::{self, Read, Write};
 use std::path::Path;
 use std::process::ExitCode;
 
-use oracle::{lists, replay, streams};
+use oracle::{lists, replay, rows, streams};
 
 fn main() -> io::Result<ExitCode> {
     let arguments: Vec<String> = std::env::args().skip(1).collect();
     match arguments.iter().map(String::as_str).collect::<Vec<_>>()[..] {
         ["lists", folder] => run_lists(Path::new(folder)),
-        ["streams", folder] => write_streams(Path::new(folder)),
+        ["streams", folder] => print_lines(streams::write(Path::new(folder))?),
+        ["rows", folder] => print_lines(rows::write(Path::new(folder))?),
         ["replay"] => replay_input(),
         _ => {
-            eprintln!("oracle lists FOLDER | oracle streams FOLDER | oracle replay");
+            eprintln!("oracle lists FOLDER | oracle streams FOLDER | oracle rows FOLDER | oracle replay");
             Ok(ExitCode::from(2))
         }
     }
@@ -31,10 +32,8 @@ fn run_lists(folder: &Path) -> io::Result<ExitCode> {
     Ok(if lines == agree && lines > 0 { ExitCode::SUCCESS } else { ExitCode::FAILURE })
 }
 
-fn write_streams(folder: &Path) -> io::Result<ExitCode> {
-    for line in streams::write(folder)? {
-        println!("{line}");
-    }
+fn print_lines(lines: Vec<String>) -> io::Result<ExitCode> {
+    lines.iter().for_each(|line| println!("{line}"));
     Ok(ExitCode::SUCCESS)
 }
 

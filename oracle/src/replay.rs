@@ -45,9 +45,9 @@ impl State {
 
     /// The state after a record that was read.
     pub fn replay_record(&self, record: &Record) -> Result<State, Refusal> {
+        self.check_height(record.height)?;
         let headers = record.headers();
         let (boundary_header, others) = headers.split_first().expect("1,024 headers");
-        self.check_height(record.height)?;
         check_headers(&headers)?;
         check_fork_votes(std::slice::from_ref(boundary_header), &self.table)?;
         let (found, update) = rules::body_parameters(record.body)?;
@@ -86,9 +86,12 @@ fn check_fork_votes(headers: &[(u32, Votes)], table: &Parameters) -> Result<(), 
     Ok(())
 }
 
+/// The first line that program `replay` prints.
+pub const HEAD_LINE: &str = "height version start votes\n";
+
 /// What program `replay` prints for an input of records one after another.
 pub fn replay_stream(bytes: &[u8]) -> Vec<u8> {
-    let mut printed = String::from("height version start votes\n");
+    let mut printed = String::from(HEAD_LINE);
     let mut state = open_mainnet();
     let mut rest = bytes;
     let mut accepted = 0u64;
@@ -106,7 +109,7 @@ pub fn replay_stream(bytes: &[u8]) -> Vec<u8> {
             }
         }
     }
-    printed += &format!("end {accepted} {refusal}\n");
+    printed += &end_line(accepted, refusal);
     printed.into_bytes()
 }
 
@@ -116,7 +119,13 @@ fn step<'a>(state: &State, bytes: &'a [u8]) -> Result<(u32, State, &'a [u8]), Re
     Ok((record.height, state.replay_record(&record)?, rest))
 }
 
-fn epoch_line(height: u32, table: &Parameters) -> String {
+/// The last line.
+pub fn end_line(accepted: u64, refusal: u8) -> String {
+    format!("end {accepted} {refusal}\n")
+}
+
+/// The line of an accepted epoch.
+pub fn epoch_line(height: u32, table: &Parameters) -> String {
     let column = |entry| table::get(table, entry).map_or("-".to_string(), |value| value.to_string());
     let version = column(Parameter::BlockVersion);
     let start = column(Parameter::SoftForkStartingHeight);

@@ -7,7 +7,8 @@ use ergo_lib::chain::parameters::{Parameter, Parameters};
 /// A map of parameters as the Rust reads it from a body.
 pub type Map = HashMap<i8, i32>;
 
-const ENTRIES: [Parameter; 12] = [
+/// In the order of the ids.
+pub const ENTRIES: [Parameter; 12] = [
     Parameter::StorageFeeFactor,
     Parameter::MinValuePerByte,
     Parameter::MaxBlockSize,

@@ -1,12 +1,9 @@
 // Runs recorded answers: for each row of the files named by its arguments, or of standard input where there are none, it makes the
 // call with the row's input and compares what comes back with the row's answer. It prints, for each file and each call, how many rows
 // were run and how many of them differ. docs/VECTORS.md has the form of a row and the calls' numbers.
-mod body_calls;
-mod calls;
-mod census_calls;
-mod update_calls;
-mod writer_calls;
+mod names;
 
+use extension_answers::calls;
 use rows::row::Row;
 use rows::run;
 
@@ -54,7 +51,7 @@ fn run_file(i: usize) {
     let mut counts = [0u64; 512];
     run_lent(fd, &mut counts);
     run::close(fd);
-    calls::print_counts(&counts);
+    names::print_counts(&counts);
 }
 
 fn main() {

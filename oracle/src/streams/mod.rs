@@ -10,6 +10,8 @@ use std::path::Path;
 
 use crate::replay::replay_stream;
 
+pub use accepted::{voted_enough, voted_too_few};
+
 const LARGEST_FILE: usize = 300_000;
 const LARGEST_SUM: usize = 2_000_000;
 

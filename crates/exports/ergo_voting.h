@@ -1,0 +1,37 @@
+/* The proved voting code, called from C. `rt staticlib exports` makes target/staticlib/libexports.a, which this header describes.
+   docs/RULES.md has the rules and the numbers of the refusals, docs/VECTORS.md the bytes. No memory is kept between calls.
+   A pointer with a length of 0 may be anything but NULL; lent parts must not overlap. */
+#ifndef ERGO_VOTING_H
+#define ERGO_VOTING_H
+
+#include <stddef.h>
+#include <stdint.h>
+
+#ifdef __cplusplus
+extern "C" {
+#endif
+
+#define ERGO_TABLE 60u
+#define ERGO_STATE 95u
+
+/* What ergo_voting_answer says where there is no answer. */
+#define ERGO_NO_CALL ((size_t)0xfffffffe)      /* no call has this number */
+#define ERGO_WRONG_LENGTH ((size_t)0xffffffff) /* the input is not as long as the call takes */
+
+/* Opens a replay on mainnet's settings: a height, a table, and room for a state. 0, or the number of the refusal; 21 where the table or
+   the state is shorter than above. Refused, no cell of the state changes. */
+uint8_t ergo_open(uint32_t height, const uint8_t *table, size_t table_len, uint8_t *state, size_t state_len);
+
+/* Replays a record on a state, which becomes the state after it. 0, or the number of the refusal; 21 where the state is shorter than
+   above. *id is the id of 15, else 0. Refused, the state is as it was. */
+uint8_t ergo_replay(uint8_t *state, size_t state_len, const uint8_t *record, size_t record_len, uint8_t *id);
+
+/* The answer to a call of docs/VECTORS.md, into out from its start, and how many bytes it has. A number above out_len: the answer does
+   not fit, or there is none (see above); what out then holds is no answer. */
+size_t ergo_voting_answer(uint8_t call, const uint8_t *input, size_t input_len, uint8_t *out, size_t out_len);
+
+#ifdef __cplusplus
+}
+#endif
+
+#endif

@@ -1,0 +1,7 @@
+#!/usr/bin/env bash
+# Compares the static library with the Rust: builds the library, the oracle and the comparison, and runs it. The argument is a seed.
+set -euo pipefail
+cd "$(dirname "$0")/.."
+rt staticlib exports | tail -n 1
+cargo build --quiet --release --offline --manifest-path oracle/compare/Cargo.toml
+exec oracle/compare/target/release/compare "${1:-1}"

@@ -1,0 +1,44 @@
+//! `compare [SEED]`: feeds the Rust and the static library the same inputs, and compares the answers byte by byte. It prints a
+//! line for each kind of inputs, and fails if an answer differs or a kind had no input.
+
+mod exhaustive;
+mod report;
+mod streams;
+mod users;
+
+use std::process::ExitCode;
+
+use oracle::inputs::random::Random;
+use oracle::inputs::{Kind, KINDS};
+use report::Report;
+
+fn main() -> ExitCode {
+    let seed = std::env::args().nth(1).map_or(1, |word| word.parse().expect("a seed is a number"));
+    println!("seed {seed}");
+    let exhaustive = exhaustive::KINDS.iter().map(|(name, run)| print(name, run()));
+    let random = KINDS.iter().map(|kind| print(kind.name, run(kind, &mut Random::new(seed))));
+    let mut reports: Vec<Report> = exhaustive.chain(random).collect();
+    reports.push(print("ergo_open and ergo_replay", users::run(&mut Random::new(seed))));
+    reports.push(print("lines over streams", streams::run(&mut Random::new(seed))));
+    let [compared, differ, outside] =
+        [Report::compared, Report::differ, Report::outside].map(|f| reports.iter().map(f).sum::<u64>());
+    println!("{compared} compared, {differ} differ, {outside} outside");
+    if differ == 0 && reports.iter().all(|report| report.compared() > 0) {
+        ExitCode::SUCCESS
+    } else {
+        ExitCode::FAILURE
+    }
+}
+
+fn print(name: &str, report: Report) -> Report {
+    println!("{name}: {report}");
+    report
+}
+
+fn run(kind: &Kind, random: &mut Random) -> Report {
+    let mut report = Report::default();
+    for _ in 0..kind.times {
+        (kind.make)(random).iter().for_each(|(call, input)| report.compare(*call, input));
+    }
+    report
+}

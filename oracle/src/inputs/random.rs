@@ -1,0 +1,91 @@
+//! Random numbers from a seed, most of them near numbers where an answer changes.
+
+const EDGES: [u32; 36] = [
+    0,
+    2,
+    9,
+    64,
+    120,
+    122,
+    124,
+    127,
+    128,
+    255,
+    256,
+    409,
+    512,
+    513,
+    1_000,
+    1_024,
+    2_048,
+    10_000,
+    16_384,
+    25_000,
+    29_491,
+    32_767,
+    32_768,
+    32_769,
+    65_535,
+    65_536,
+    65_537,
+    417_792,
+    2_500_000,
+    1_073_741_823,
+    2_147_482_624,
+    2_147_483_647,
+    2_147_483_648,
+    4_294_966_272,
+    4_294_967_166,
+    4_294_967_295,
+];
+
+pub struct Random(u64);
+
+impl Random {
+    pub fn new(seed: u64) -> Random {
+        Random(seed)
+    }
+
+    /// The next 64 bits (splitmix64).
+    pub fn bits(&mut self) -> u64 {
+        self.0 = self.0.wrapping_add(0x9e37_79b9_7f4a_7c15);
+        let mut x = self.0;
+        x = (x ^ (x >> 30)).wrapping_mul(0xbf58_476d_1ce4_e5b9);
+        x = (x ^ (x >> 27)).wrapping_mul(0x94d0_49bb_1331_11eb);
+        x ^ (x >> 31)
+    }
+
+    pub fn below(&mut self, end: usize) -> usize {
+        (self.bits() % end as u64) as usize
+    }
+
+    pub fn one_in(&mut self, n: usize) -> bool {
+        self.below(n) == 0
+    }
+
+    pub fn pick<T: Copy>(&mut self, items: &[T]) -> T {
+        items[self.below(items.len())]
+    }
+
+    pub fn byte(&mut self) -> u8 {
+        self.bits() as u8
+    }
+
+    pub fn bytes(&mut self, count: usize) -> Vec<u8> {
+        (0..count).map(|_| self.byte()).collect()
+    }
+
+    /// A number of up to three more or less.
+    pub fn near(&mut self, number: u32) -> u32 {
+        number.wrapping_add(self.below(7) as u32).wrapping_sub(3)
+    }
+
+    /// A number near an edge, or of any width.
+    pub fn number(&mut self) -> u32 {
+        if self.one_in(3) {
+            return (self.bits() as u32) >> self.below(32);
+        }
+        let edge = self.pick(&EDGES);
+        self.near(edge)
+    }
+}

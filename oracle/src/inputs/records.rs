@@ -1,0 +1,194 @@
+//! Records on states, streams of them, openings and lines.
+
+use chain::voting::ExtensionField;
+use chain::Network;
+use ergo_lib::chain::parameters::{Parameter, Parameters};
+
+use super::damage::damage;
+use super::random::Random;
+use super::voting::{any_table, near_round, tally, vote, votes};
+use super::writers::with_cells;
+use super::{bodies, updates, Asked};
+use crate::answers::archive::{first_votes, state_bytes};
+use crate::answers::bytes::{put_table, put_u32, put_value, IN_ORDER};
+use crate::record::HEADERS;
+use crate::replay::State;
+use crate::rules::{self, Votes};
+use crate::streams::build::{headers as epoch_votes, with_header, Parts, Stream, FORK, QUIET, UPDATE};
+use crate::streams::{voted_enough, voted_too_few};
+use crate::table;
+
+/// Legal votes: none, one that is for the fork or not, or two and the fork.
+fn legal(random: &mut Random) -> Votes {
+    let id = random.pick(&[1u8, 2, 3, 4, 5, 6, 7, 8, 9]);
+    let other = if id == 9 { 1 } else { id + 1 };
+    match random.below(6) {
+        0 => QUIET,
+        1 => FORK,
+        2 => [id, 0, 120],
+        3 => [id.wrapping_neg(), other, 0],
+        4 => [id, other.wrapping_neg(), 120],
+        _ => [0, 0, id],
+    }
+}
+
+/// The votes of an epoch: so many headers vote alike, near an edge; the others do not vote, or vote otherwise.
+pub fn epoch(random: &mut Random) -> Vec<Votes> {
+    let first = legal(random);
+    let count = random.pick(&[1, 2, 511, 512, 513, 819, 820, 1_023, 1_024]);
+    let rest = legal(random);
+    let groups = [(count, first), (if random.one_in(2) { HEADERS - count } else { 0 }, rest)];
+    let mut epoch = epoch_votes(&groups);
+    if random.one_in(12) {
+        epoch = with_header(epoch, random.below(HEADERS), votes(random));
+    }
+    epoch
+}
+
+fn fields(table: &Parameters) -> Vec<ExtensionField> {
+    rules::pack_parameters(&table::to_map(table))
+}
+
+/// A record on a state whose body carries the table that is computed, if one is.
+pub fn record(random: &mut Random, state: &State) -> Vec<u8> {
+    let votes = epoch(random);
+    let update = if random.one_in(3) { updates::update(random) } else { Vec::new() };
+    let computed = state.boundary(votes[0], &update).unwrap_or_else(|_| state.table.clone());
+    let mut parts = Parts { height: state.next, fields: fields(&computed), votes };
+    if !update.is_empty() && update.len() <= 64 {
+        parts.fields.push((UPDATE, update));
+    }
+    if random.one_in(8) {
+        parts = spoiled(random, parts);
+    }
+    if random.one_in(12) {
+        return with_other_body(random, &parts);
+    }
+    parts.bytes()
+}
+
+/// One thing of the parts is another.
+fn spoiled(random: &mut Random, mut parts: Parts) -> Parts {
+    let at = random.below(parts.fields.len().max(1));
+    match random.below(5) {
+        0 => parts.height = random.pick(&[0, parts.height.wrapping_add(1_024), parts.height.wrapping_sub(1_024)]),
+        1 if at < parts.fields.len() => drop(parts.fields.remove(at)),
+        2 if at < parts.fields.len() => parts.fields[at].1 = random.bytes(4),
+        3 => parts.fields.push(([0, random.byte()], random.bytes(4))),
+        _ => parts.fields.rotate_left(at),
+    }
+    parts
+}
+
+fn with_other_body(random: &mut Random, parts: &Parts) -> Vec<u8> {
+    let body = if random.one_in(2) { bodies::body(random) } else { parts.body() };
+    let body = if random.one_in(4) { body } else { damage(random, body) };
+    parts.bytes_with_body(&body)
+}
+
+/// A state in or out of a round, at a height of an epoch.
+fn state(random: &mut Random) -> State {
+    let mainnet = rules::mainnet();
+    let tally = tally(random, mainnet.voting_length);
+    let (mut table, height) = near_round(random, &mainnet, &tally);
+    if !random.one_in(4) {
+        table = with_ordinary_defaults(table);
+    }
+    let next = if random.one_in(8) { random.number() } else { height / 1_024 * 1_024 };
+    let next = if random.one_in(8) { mainnet.version2_activation_height } else { next };
+    State { next: next.min(1 << 31), table, tally }
+}
+
+/// The ordinary entries of mainnet, so that fewer votes are refused.
+fn with_ordinary_defaults(table: Parameters) -> Parameters {
+    let mut all = rules::default_parameters(Network::Mainnet);
+    all.parameters_table.remove(&Parameter::BlockVersion);
+    let kept = table.parameters_table.into_iter().filter(|(entry, _)| *entry as i8 > 9);
+    all.parameters_table.extend(kept);
+    all
+}
+
+/// Some epochs one after another, each record whole and damaged.
+pub fn replays(random: &mut Random) -> Vec<Asked> {
+    let mut state = if random.one_in(3) { crate::replay::open_mainnet() } else { state(random) };
+    let mut bytes = state_bytes(&state, IN_ORDER);
+    let mut all = Vec::new();
+    for _ in 0..8 {
+        let record = record(random, &state);
+        all.push((0x3d, [&bytes[..], &record].concat()));
+        if random.one_in(3) {
+            all.push((0x3d, [&bytes[..], &damage(random, record.clone())].concat()));
+        }
+        if let Ok(next) = state.replay(&record) {
+            bytes = state_bytes(&next, first_votes(&record));
+            state = next;
+        }
+    }
+    all
+}
+
+/// An input of records from mainnet's beginning, with now and then a last one that is damaged, cut or followed by more bytes. Some
+/// begin with the 32 epochs of a round that has just enough votes, or one too few.
+pub fn stream(random: &mut Random) -> Vec<u8> {
+    let mut stream = match random.below(4) {
+        0 => voted_enough([0, 0]),
+        1 => voted_too_few(),
+        _ => Stream::new(),
+    };
+    for _ in 0..random.pick(&[0, 1, 2, 5, 40, 75]) {
+        let record = record(random, stream.state());
+        if stream.state().replay(&record).is_ok() {
+            stream.accept(&record);
+        } else if random.one_in(10) {
+            stream.bytes.extend(record);
+            break;
+        }
+    }
+    let mut bytes = stream.bytes;
+    if random.one_in(2) {
+        let start = bytes.len().saturating_sub(3_300);
+        let end = damage(random, bytes[start..].to_vec());
+        bytes.truncate(start);
+        bytes.extend(end);
+    }
+    bytes
+}
+
+pub fn headers(random: &mut Random) -> Vec<Asked> {
+    let count = random.pick(&[0, 1, 2, 5, 30]);
+    let spoiled = random.one_in(2);
+    let mut input: Vec<u8> = (0..count).flat_map(|_| legal(random)).collect();
+    if spoiled && !input.is_empty() {
+        let at = random.below(input.len());
+        input[at] = vote(random);
+    }
+    vec![(0x3b, input)]
+}
+
+pub fn openings(random: &mut Random) -> Vec<Asked> {
+    let height = if random.one_in(2) { random.number() } else { random.number() / 1_024 * 1_024 };
+    let table = any_table(random);
+    let mut input = height.to_be_bytes().to_vec();
+    put_table(&mut input, &table);
+    vec![(0x3c, input)]
+}
+
+pub fn lines(random: &mut Random) -> Vec<Asked> {
+    let call = random.pick(&[0x3e, 0x3f, 0x3f, 0x40]);
+    let mut input = Vec::new();
+    match call {
+        0x3f => {
+            put_u32(&mut input, random.number());
+            for _ in 0..3 {
+                let value = if random.one_in(4) { None } else { Some(random.number() as i32) };
+                put_value(&mut input, value);
+            }
+        }
+        0x40 => {
+            put_u32(&mut input, random.number());
+            input.push(random.byte());
+        }
+        _ => {}
+    }
+    vec![(call, with_cells(random, call, input))]
+}

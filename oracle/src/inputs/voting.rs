@@ -1,0 +1,177 @@
+//! Inputs of the calls of `voting`.
+
+use chain::voting::VotingConfig;
+use chain::Network;
+use ergo_lib::chain::parameters::{Parameter, Parameters};
+
+use super::random::Random;
+use super::Asked;
+use crate::answers::bytes::{put_settings, put_table, put_tally, put_u32, IN_ORDER};
+use crate::rules::{self, Tally, Votes};
+use crate::table;
+
+const IDS: [u8; 12] = [1, 2, 3, 4, 5, 6, 7, 8, 9, 120, 120, 10];
+
+/// A vote: most often for a known id, up or down.
+pub fn vote(random: &mut Random) -> u8 {
+    match random.below(8) {
+        0 => random.byte(),
+        1 => random.pick(&[0, 119, 120, 121, 122, 127, 128, 129, 136, 255]),
+        2 | 3 => random.pick(&IDS).wrapping_neg(),
+        _ => random.pick(&IDS),
+    }
+}
+
+pub fn votes(random: &mut Random) -> Votes {
+    let slot = |random: &mut Random| if random.one_in(2) { 0 } else { vote(random) };
+    [slot(random), slot(random), slot(random)]
+}
+
+pub fn settings(random: &mut Random) -> VotingConfig {
+    let numbers: [u32; 3] = match random.below(8) {
+        0 | 1 => [1_024, 32, 32],
+        2 => [128, 32, 32],
+        3 => [0; 3].map(|_| random.below(5) as u32),
+        4 => [0; 3].map(|_| random.pick(&[0, 1, 2, 65_534, 65_535])),
+        5 => [0; 3].map(|_| random.number() % 65_536),
+        6 => [random.below(100) as u32, random.below(100) as u32, random.below(100) as u32],
+        _ => [0; 3].map(|_| random.number()),
+    };
+    let [voting_length, soft_fork_epochs, activation_epochs] = numbers;
+    VotingConfig { voting_length, soft_fork_epochs, activation_epochs, version2_activation_height: random.number() }
+}
+
+/// The greatest fork total that is not approved.
+fn threshold(settings: &VotingConfig) -> u32 {
+    (u128::from(settings.voting_length) * u128::from(settings.soft_fork_epochs) * 9 / 10) as u32
+}
+
+/// A value near the edges of its entry.
+fn value(random: &mut Random, entry: Parameter) -> i32 {
+    match entry {
+        Parameter::BlockVersion if !random.one_in(4) => random.below(6) as i32 - 1,
+        _ => random.number() as i32,
+    }
+}
+
+/// Each entry is absent now and then.
+pub fn any_table(random: &mut Random) -> Parameters {
+    let mut table = Parameters::default();
+    let absent = random.pick(&[2, 4, 50]);
+    for entry in table::ENTRIES {
+        if !random.one_in(absent) {
+            let value = value(random, entry);
+            table.parameters_table.insert(entry, value);
+        }
+    }
+    table
+}
+
+/// A table with a round near a height's edges: what is put into 121 and 122, and the height.
+pub fn near_round(random: &mut Random, settings: &VotingConfig, tally: &[(i8, u32)]) -> (Parameters, u32) {
+    let mut table = if random.one_in(4) { rules::default_parameters(Network::Mainnet) } else { any_table(random) };
+    let (length, voted, activation) = (settings.voting_length, settings.soft_fork_epochs, settings.activation_epochs);
+    let start = random.pick(&[0, length, length.wrapping_mul(3), 1_024, 2_147_482_624]);
+    let start = if random.one_in(5) { random.number() } else { start };
+    let epochs = [0, 1, voted, voted.wrapping_add(1), voted.wrapping_add(activation)];
+    let epochs = random.pick(&epochs).wrapping_add(random.below(2) as u32);
+    let mut height = start.wrapping_add(length.wrapping_mul(epochs));
+    if random.one_in(4) {
+        height = random.near(height);
+    }
+    let counted = tally.iter().find(|(id, _)| *id == 120).map_or(0, |(_, count)| *count);
+    let total = random.near(threshold(settings)).wrapping_sub(if random.one_in(3) { 0 } else { counted });
+    for (entry, value) in [(Parameter::SoftForkStartingHeight, start), (Parameter::SoftForkVotesCollected, total)] {
+        if !random.one_in(8) {
+            table.parameters_table.insert(entry, value as i32);
+        }
+    }
+    (table, height)
+}
+
+/// Entries in three places: some are equal, some are the negation of another, several are 120.
+pub fn tally(random: &mut Random, length: u32) -> Tally {
+    let mut tally = Tally::new();
+    for _ in 0..random.below(4) {
+        let mut id = vote(random) as i8;
+        if let (Some(&(before, _)), true) = (tally.first(), random.one_in(4)) {
+            id = if random.one_in(2) { before } else { before.wrapping_neg() };
+        }
+        let count = if random.one_in(4) { random.number() } else { random.near(length / 2) };
+        if id != 0 {
+            tally.push((id, count));
+        }
+    }
+    tally
+}
+
+/// Settings, height, table, tally and the flag of the vote 120. Now and then the height is that of version 2.
+pub fn boundary_input(random: &mut Random) -> Vec<u8> {
+    let mut settings = settings(random);
+    let tally = tally(random, settings.voting_length);
+    let (table, height) = near_round(random, &settings, &tally);
+    if random.one_in(4) {
+        settings.version2_activation_height = height;
+    }
+    let mut input = Vec::new();
+    put_settings(&mut input, &settings);
+    put_u32(&mut input, height);
+    put_table(&mut input, &table);
+    put_tally(&mut input, &tally, IN_ORDER);
+    input.push(random.one_in(2).into());
+    input
+}
+
+pub fn boundaries(random: &mut Random) -> Vec<Asked> {
+    let mut input = boundary_input(random);
+    input.push(random.one_in(2).into());
+    vec![(0x16, input)]
+}
+
+pub fn tallies(random: &mut Random) -> Vec<Asked> {
+    let (length, boundary) = (random.number(), random.number());
+    let first = if random.one_in(6) { random.number() } else { boundary.wrapping_sub(length) };
+    let mut input = Vec::new();
+    [first, boundary, length].into_iter().for_each(|number| put_u32(&mut input, number));
+    let seed = votes(random);
+    let count = random.pick(&[0, 1, 2, 3, 8, 40, 300]);
+    for i in 0..count {
+        input.extend(if i == 0 || random.one_in(3) { seed } else { votes(random) });
+    }
+    vec![(0x13, input)]
+}
+
+pub fn fork_checks(random: &mut Random) -> Vec<Asked> {
+    let settings = settings(random);
+    let (table, height) = near_round(random, &settings, &[]);
+    let mut votes = votes(random);
+    if !random.one_in(4) {
+        votes[random.below(3)] = 120;
+    }
+    let mut input = Vec::new();
+    put_settings(&mut input, &settings);
+    put_u32(&mut input, height);
+    input.extend(votes);
+    put_table(&mut input, &table);
+    vec![(0x15, input)]
+}
+
+pub fn approvals(random: &mut Random) -> Vec<Asked> {
+    let settings = settings(random);
+    let mut input = Vec::new();
+    put_settings(&mut input, &settings);
+    let call = random.pick(&[0x1d, 0x1e]);
+    let edge = if call == 0x1d { threshold(&settings) } else { settings.voting_length / 2 };
+    let votes = if random.one_in(3) { random.number() } else { random.near(edge) };
+    put_u32(&mut input, votes);
+    vec![(call, input)]
+}
+
+pub fn block_versions(random: &mut Random) -> Vec<Asked> {
+    let table = any_table(random);
+    let mut input = Vec::new();
+    put_table(&mut input, &table);
+    let version = table::get(&table, Parameter::BlockVersion).unwrap_or(0) as u8;
+    input.push(if random.one_in(2) { random.byte() } else { version });
+    vec![(0x19, input)]
+}
