@@ -1,0 +1,81 @@
+//! Times the port and the Rust over the same records in memory, and program `replay` beside `sha256sum`. docs/PERFORMANCE.md.
+
+mod streams;
+
+use std::fs::{self, File};
+use std::io;
+use std::path::{Path, PathBuf};
+use std::process::{Command, Stdio};
+use std::time::Instant;
+
+use ergo_voting::{Replay, TABLE};
+use oracle::replay::open_mainnet;
+use streams::{Timed, EPOCHS, HEADERS};
+
+const RUNS: usize = 25;
+const FIRST_HEIGHT: u32 = 1_024;
+const DEFAULT_TABLE: u8 = 0x1a;
+const MAINNET: [u8; 1] = [0];
+
+fn main() -> io::Result<()> {
+    let streams = streams::all();
+    println!("{EPOCHS} epochs in memory, the best of {RUNS} runs; no buffer is cleared between runs");
+    streams.iter().for_each(in_memory);
+    println!("end to end, from a file, the best of {RUNS} runs");
+    let folder = Path::new("target/bench");
+    fs::create_dir_all(folder)?;
+    streams.iter().try_for_each(|stream| end_to_end(stream, folder))
+}
+
+fn in_memory(stream: &Timed) {
+    let rust = best(|| replay_rust(&stream.records));
+    let port = best(|| replay_port(&stream.records));
+    println!("{}: Rust {}, port {}, ratio {:.1}", stream.name, speed(rust), speed(port), rust / port);
+}
+
+fn replay_rust(records: &[Vec<u8>]) {
+    let mut state = open_mainnet();
+    for record in records {
+        state = state.replay(record).expect("a record that is accepted");
+    }
+    assert_eq!(state.next as usize, (EPOCHS + 1) * HEADERS);
+}
+
+fn replay_port(records: &[Vec<u8>]) {
+    let mut table = [0; TABLE];
+    ergo_voting::answer(DEFAULT_TABLE, &MAINNET, &mut table).expect("the default table");
+    let mut replay = Replay::open(FIRST_HEIGHT, &table).expect("an opening at 1,024");
+    for record in records {
+        replay.replay(record).expect("a record that is accepted");
+    }
+}
+
+fn end_to_end(stream: &Timed, folder: &Path) -> io::Result<()> {
+    let path = folder.join(stream.name).with_extension("records");
+    fs::write(&path, stream.records.concat())?;
+    let replay = best(|| run("target/bin/replay", &[], &path));
+    let sha256sum = best(|| run("sha256sum", &[&path], &path));
+    println!("{}: replay {:.1} ms, sha256sum {:.1} ms, ratio {:.1}", stream.name, replay * 1e3, sha256sum * 1e3, sha256sum / replay);
+    Ok(())
+}
+
+fn run(program: &str, arguments: &[&PathBuf], input: &Path) {
+    let input = File::open(input).expect("the stream's file");
+    let status = Command::new(program).args(arguments).stdin(input).stdout(Stdio::null()).status();
+    assert!(status.expect("a program that runs").success());
+}
+
+/// The least time of all runs, in seconds.
+fn best(run: impl Fn()) -> f64 {
+    let times = (0..RUNS).map(|_| {
+        let begin = Instant::now();
+        run();
+        begin.elapsed().as_secs_f64()
+    });
+    times.fold(f64::MAX, f64::min)
+}
+
+fn speed(seconds: f64) -> String {
+    let headers = (EPOCHS * HEADERS) as f64;
+    format!("{:.0} epochs a second, {:.2} ns a header", EPOCHS as f64 / seconds, seconds * 1e9 / headers)
+}
