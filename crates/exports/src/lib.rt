@@ -5,6 +5,8 @@ use archive::replay::Replay;
 use archive_answers::replay_calls;
 use rows::values;
 
+pub mod boundary;
+
 // No call has this number.
 const NO_CALL: usize = 0xffff_fffe;
 
@@ -30,6 +32,9 @@ pub extern "C" fn ergo_voting_answer(call: u8, input: &[u8], out: &mut [u8]) -> 
     }
     if call < 0x42 {
         return archive_answers::calls::answer_of(call, input, out);
+    }
+    if call < 0x43 {
+        return lent_answers::calls::answer_of(call, input, out);
     }
     NO_CALL
 }
