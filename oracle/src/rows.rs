@@ -19,7 +19,7 @@ const LONGEST: usize = 700;
 
 /// The calls that have a row, the Rust's function, how many rows each refusal gets, and the refusals. Of an answer without one it
 /// is the flag, or 0.
-const CALLS: [(u8, &str, usize, &[u8]); 28] = [
+const CALLS: [(u8, &str, usize, &[u8]); 32] = [
     (0x11, "check_header_votes", 60, &[0, 9, 10, 11]),
     (0x13, "tally_votes_seeded", 100, &[0]),
     (0x15, "check_fork_vote", 80, &[0, 12, 19]),
@@ -46,6 +46,10 @@ const CALLS: [(u8, &str, usize, &[u8]); 28] = [
     (0x33, "encode_validation_settings_update", 60, &[0, 21, 23]),
     (0x34, "encode_disabled_rules", 60, &[0, 21]),
     (0x35, "parse_extension_bytes, the fields", 25, &[0, 1, 2, 3, 4, 5]),
+    (0x36, "parse_extension_bytes, parse_parameters_from_kv, of all short bodies", 1, &[0]),
+    (0x37, "parse_validation_settings_update, of all short updates", 1, &[0]),
+    (0x38, "parse_extension_bytes, parse_parameters_from_kv, of the cuts of a body", 20, &[0]),
+    (0x39, "parse_validation_settings_update, of the cuts of an update", 40, &[0]),
     (0x3b, "check_header_votes, of headers one after another", 30, &[0, 9, 10, 11]),
     (0x3d, REPLAY, 6, &[0, 1, 2, 3, 4, 5, 6, 7, 8, 9, 10, 11, 12, 13, 14, 15, 19, 20, 25, 26]),
 ];
@@ -127,7 +131,7 @@ fn add(rows: &mut Rows, (call, input): &Asked) {
 fn refusal(call: u8, answer: &[u8]) -> u8 {
     match call {
         0x15 => answer[1],
-        0x1a | 0x1f | 0x22 | 0x23 | 0x26 | 0x29 => 0,
+        0x1a | 0x1f | 0x22 | 0x23 | 0x26 | 0x29 | 0x36..=0x39 => 0,
         _ => answer[0],
     }
 }
@@ -135,7 +139,8 @@ fn refusal(call: u8, answer: &[u8]) -> u8 {
 /// Inputs that are no kind of their own, since they are compared whole.
 fn chosen() -> Vec<Asked> {
     let mut random = Random::new(SEED);
-    let mut chosen: Vec<Asked> = vec![(0x1a, vec![0]), (0x1a, vec![1]), (0x22, vec![0]), (0x22, vec![1]), (0x23, Vec::new())];
+    let mut chosen: Vec<Asked> = [0x23, 0x36, 0x37].into_iter().map(|call| (call, Vec::new())).collect();
+    chosen.extend([(0x1a, vec![0]), (0x1a, vec![1]), (0x22, vec![0]), (0x22, vec![1])]);
     chosen.extend((0..5_000).map(|_| (0x11, voting::votes(&mut random).to_vec())));
     chosen.extend((0..=255).map(|id| (0x1f, vec![id])));
     let rules = (0..=520).chain([1_000, 32_767, 32_768, 65_535u32]);

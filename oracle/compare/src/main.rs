@@ -4,6 +4,7 @@
 mod exhaustive;
 mod report;
 mod streams;
+mod users;
 
 use std::process::ExitCode;
 
@@ -17,6 +18,7 @@ fn main() -> ExitCode {
     let exhaustive = exhaustive::KINDS.iter().map(|(name, run)| print(name, run()));
     let random = KINDS.iter().map(|kind| print(kind.name, run(kind, &mut Random::new(seed))));
     let mut reports: Vec<Report> = exhaustive.chain(random).collect();
+    reports.push(print("ergo_open and ergo_replay", users::run(&mut Random::new(seed))));
     reports.push(print("lines over streams", streams::run(&mut Random::new(seed))));
     let [compared, differ, outside] =
         [Report::compared, Report::differ, Report::outside].map(|f| reports.iter().map(f).sum::<u64>());

@@ -2,6 +2,7 @@
 
 use std::fmt;
 
+use ergo_voting::NoAnswer;
 use oracle::answers::{self, Gap};
 
 const LONGEST_ANSWER: usize = 0x4_0000;
@@ -41,18 +42,27 @@ impl Report {
         self.outside
     }
 
-    /// Hands an input to both sides. One outside the domain of document 01 is counted and not compared; one that the Rust can't
-    /// be asked ends the run, since no kind should have it.
+    /// Hands an input to both sides.
     pub fn compare(&mut self, call: u8, input: &[u8]) {
+        let mut out = std::mem::take(&mut self.out);
+        self.compare_given(call, input, || ergo_voting::answer(call, input, &mut out));
+        self.out = out;
+    }
+
+    /// One outside the domain of document 01 is counted and not compared; one that the Rust can't be asked ends the run, since no
+    /// kind should have it.
+    pub fn compare_given<'a>(&mut self, call: u8, input: &[u8], library: impl FnOnce() -> Result<&'a [u8], NoAnswer>) {
         match answers::answer(call, input) {
             Err(Gap::Outside) => self.outside += 1,
             Err(Gap::NoCounterpart) => panic!("call {call:02x} has no counterpart for {}", hex(input)),
             Ok(rust) => {
-                let given = ergo_voting::answer(call, input, &mut self.out);
-                let same = given.is_ok_and(|bytes| rust.fits(bytes));
-                let library = if same { String::new() } else { given.map_or_else(|none| format!("{none:?}"), hex) };
-                let input_text = || format!("call {call:02x} of {}", hex(input));
-                self.count(same, || Difference { input: input_text(), size: input.len(), rust: hex(&rust.bytes), library });
+                let given = library();
+                self.count(given.is_ok_and(|bytes| rust.fits(bytes)), || Difference {
+                    input: format!("call {call:02x} of {}", hex(input)),
+                    size: input.len(),
+                    rust: hex(&rust.bytes),
+                    library: given.map_or_else(|none| format!("{none:?}"), hex),
+                });
             }
         }
     }
