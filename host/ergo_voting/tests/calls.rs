@@ -19,7 +19,7 @@ fn a_call_answers() {
 fn no_answer() {
     let mut out = [0; 4];
     assert_eq!(answer(0, &[], &mut out), Err(NoAnswer::NoSuchCall));
-    assert_eq!(answer(0x42, &[], &mut out), Err(NoAnswer::NoSuchCall));
+    assert_eq!(answer(0x43, &[], &mut out), Err(NoAnswer::NoSuchCall));
     assert_eq!(answer(0x11, &[1, 2], &mut out), Err(NoAnswer::WrongLength));
     assert_eq!(answer(0x1a, &[0], &mut out), Err(NoAnswer::OutTooShort));
 }
