@@ -74,11 +74,16 @@ Z = C.the-row
 
 -- at exit nothing is had of what was lent to be read, and of the cells what says their last values
 abbrev stayed : Stays (lens.ended .signature .params) (lens.ended .kept)
-stayed =
-    (stay-dropped (shrSliceOf (0 ∷ []) tt (plain (λ _. R))) yes,
-    (stay-dropped (shrSliceOf (1 ∷ []) tt (plain (λ _. u8))) yes,
-    (stay-dropped (shrSliceOf (2 ∷ []) tt (plain (λ _. u8))) yes,
-    (gave-slice (3 ∷ []) tt (plain (λ _. u8)), tt))))
+stayed = (
+  stay-dropped (shrSliceOf (0 ∷ []) tt (plain (λ _. R))) yes,
+  (
+    stay-dropped (shrSliceOf (1 ∷ []) tt (plain (λ _. u8))) yes,
+    (
+      stay-dropped (shrSliceOf (2 ∷ []) tt (plain (λ _. u8))) yes,
+      (gave-slice (3 ∷ []) tt (plain (λ _. u8)), tt),
+    ),
+  ),
+)
 
 module _ {M : Type 1} (𝓤 : URA M) (H : Heap 𝓤) (A : Atoms 𝓤) (mem : Memory → SProp 𝓤) (run : Routine → Fun 𝓤) where
   -- the contracts that the proof cites
@@ -202,11 +207,16 @@ module _ {M : Type 1} (𝓤 : URA M) (H : Heap 𝓤) (A : Atoms 𝓤) (W : Given
 
   lens-meets : Meets 𝓤 H A lens.signature (WpFn 𝓤 H (𝓣 .C) (𝓣 .Λ) code.function) (lens.spec 𝓤 H A mem run)
   lens-meets =
-      walk-meets 𝓤 H A lens.ended stayed W
-      (goes-dropped 𝓤 H A W 4 (shrSliceOf (0 ∷ []) tt (plain (λ _. R))) yes (λ κs x f. refl),
-      (goes-dropped 𝓤 H A W 4 (shrSliceOf (1 ∷ []) tt (plain (λ _. u8))) yes (λ κs x f. refl),
-      (goes-dropped 𝓤 H A W 4 (shrSliceOf (2 ∷ []) tt (plain (λ _. u8))) yes (λ κs x f. refl),
-      (goes-gave-slice 𝓤 H A W 4 3 tt (plain (λ _. u8)), tt))))
+      walk-meets 𝓤 H A lens.ended stayed W (
+        goes-dropped 𝓤 H A W 4 (shrSliceOf (0 ∷ []) tt (plain (λ _. R))) yes (λ κs x f. refl),
+        (
+          goes-dropped 𝓤 H A W 4 (shrSliceOf (1 ∷ []) tt (plain (λ _. u8))) yes (λ κs x f. refl),
+          (
+            goes-dropped 𝓤 H A W 4 (shrSliceOf (2 ∷ []) tt (plain (λ _. u8))) yes (λ κs x f. refl),
+            (goes-gave-slice 𝓤 H A W 4 3 tt (plain (λ _. u8)), tt),
+          ),
+        ),
+      )
       (lens.clauses 𝓤 H A mem run) (WpFn 𝓤 H (𝓣 .C) (𝓣 .Λ) code.function) (WpFn-mono 𝓤 H (W .laws) 𝓣 code.function) lens-walks
 
 pub ergo-boundary-spec : {M : Type 1} → stated.statement M
