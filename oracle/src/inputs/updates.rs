@@ -6,7 +6,7 @@ use super::random::Random;
 use super::voting::{boundary_input, near_round, settings, vote};
 use super::Asked;
 use crate::answers::bytes::{put_count, put_settings, put_table, put_u32};
-use crate::rules::Tally;
+use crate::rules::{self, Tally};
 
 /// A rule: around those that may not be disabled.
 pub fn rule(random: &mut Random) -> u32 {
@@ -103,7 +103,21 @@ pub fn lent_boundaries(random: &mut Random) -> Vec<Asked> {
         input.push(id as u8);
         put_u32(&mut input, count);
     }
-    let update = update(random);
-    input.extend(damaged(random, update));
+    input.extend(proposed(random));
     vec![(0x43, input)]
+}
+
+/// An update: none, one of rules that may be disabled, or any.
+fn proposed(random: &mut Random) -> Vec<u8> {
+    match random.below(4) {
+        0 | 1 => Vec::new(),
+        2 => {
+            let rules: Vec<u16> = (0..1 + random.below(3)).map(|_| random.pick(&[215, 409, 409, 32_000])).collect();
+            rules::encode_rules(&rules).expect("a few rules")
+        }
+        _ => {
+            let update = update(random);
+            damaged(random, update)
+        }
+    }
 }
