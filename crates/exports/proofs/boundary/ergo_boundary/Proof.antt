@@ -58,8 +58,8 @@ use Rattle.extension_answers.proofs.update_calls.put_computed as put
 use Rattle.extension_answers.proofs.update_calls.put_computed.Symbol as put-def
 use Rattle.extension_answers.proofs.update_calls.put_computed.Symbol.{name as #put}
 use Rattle.extension_answers.proofs.update_calls.put_computed.Met as put-thm
-use Rattle.exports.proofs.boundary.ergo_boundary.Key.{name as #lens}
-use Rattle.exports.proofs.boundary.ergo_boundary as lens
+use Rattle.exports.proofs.boundary.ergo_boundary.Key.{name as #ergo}
+use Rattle.exports.proofs.boundary.ergo_boundary as ergo
 use Rattle.exports.proofs.boundary.ergo_boundary.Statement as stated
 use Rattle.exports.proofs.boundary.ergo_boundary.Code as code
 
@@ -73,7 +73,7 @@ abbrev Z : RattleType
 Z = C.the-row
 
 -- at exit nothing is had of what was lent to be read, and of the cells what says their last values
-abbrev stayed : Stays (lens.ended .signature .params) (lens.ended .kept)
+abbrev stayed : Stays (ergo.ended .signature .params) (ergo.ended .kept)
 stayed = (
   stay-dropped (shrSliceOf (0 ∷ []) tt (plain (λ _. R))) yes,
   (
@@ -115,20 +115,20 @@ module _ {M : Type 1} (𝓤 : URA M) (H : Heap 𝓤) (A : Atoms 𝓤) (W : Given
   abbrev v₃ : Val
   v₃ = sliceVal (x₃ .ptr) (length (x₃ .now))
 
-  abbrev at : Vals lens.signature (κ₀, (κ₁, (κ₂, (κ₃, tt))))
+  abbrev at : Vals ergo.signature (κ₀, (κ₁, (κ₂, (κ₃, tt))))
   at = (v₀ ∷ [], (v₁ ∷ [], (v₂ ∷ [], (v₃ ∷ [], tt))))
 
-  abbrev bound : walkOf 𝓤 H A lens.ended stayed (lens.clauses 𝓤 H A mem run) .Ghost
+  abbrev bound : walkOf 𝓤 H A ergo.ended stayed (ergo.clauses 𝓤 H A mem run) .Ghost
   bound = (((κ₀, (κ₁, (κ₂, (κ₃, tt)))), (q₀, (q₁, (q₂, (q₃, tt)))), tt, (x₀, (x₁, (x₂, (x₃, tt)))), at), tt)
 
   abbrev Post : Val → SProp 𝓤
-  Post = walkOf 𝓤 H A lens.ended stayed (lens.clauses 𝓤 H A mem run) .post bound
+  Post = walkOf 𝓤 H A ergo.ended stayed (ergo.clauses 𝓤 H A mem run) .post bound
 
   exits : (r : ℕ) (w : Val) (zs : List ℕ) → length zs ≡ length (x₃ .now)
       → ent 𝓤 (⋆ 𝓤 H A ((‵ (flft κ₀ q₀) ⊛ ‵ (flft κ₁ q₁) ⊛ ‵ ftrue) ∷ ‵ (flft κ₂ q₂) ∷ (‵ (flft κ₃ q₃) ⊛ ‵ ftrue) ∷ ‵ (finally u8 (x₃ .name) zs) ∷ ‵ (usize .own r (w ∷ [])) ∷ [])) (Post w)
   exits r w zs l =
       qed W ((‵ (flft κ₀ q₀) ⊛ ‵ (flft κ₁ q₁) ⊛ ‵ ftrue) ∷ ‵ (flft κ₂ q₂) ∷ (‵ (flft κ₃ q₃) ⊛ ‵ ftrue) ∷ ‵ (finally u8 (x₃ .name) zs) ∷ ‵ (usize .own r (w ∷ [])) ∷ []) ∵
-      suffices ! _ (ends-at 𝓤 H A lens.ended stayed (lens.clauses 𝓤 H A mem run) W bound w r (tt, (tt, (tt, (zs, tt)))) (tt, (tt, (tt, (l, tt))))) $ suffices ! _ (quiet 𝓤 H A mem run _) $
+      suffices ! _ (ends-at 𝓤 H A ergo.ended stayed (ergo.clauses 𝓤 H A mem run) W bound w r (tt, (tt, (tt, (zs, tt)))) (tt, (tt, (tt, (l, tt))))) $ suffices ! _ (quiet 𝓤 H A mem run _) $
       split ! $ move ! (1 ∷ []) $ split ! $ move ! (3 ∷ 4 ∷ []) $ join ! $ move ! (1 ∷ 0 ∷ []) $ join ! $ move ! (2 ∷ 0 ∷ []) $ join ! $
       -- [the tokens; true; the cells' last values; the result]
       move ! (2 ∷ 1 ∷ []) $ fjoin ! $ nothing ! $ fjoin ! $ nothing ! $ fjoin ! $ nothing ! $ fjoin ! $ move ! (1 ∷ 0 ∷ []) $ frame ! $ frame ! $ done !
@@ -157,7 +157,7 @@ module _ {M : Type 1} (𝓤 : URA M) (H : Heap 𝓤) (A : Atoms 𝓤) (W : Given
 
   walk : (𝓣 : Tables 𝓤 H) → FmC 𝓤 H (W .laws) (𝓣 .C) → Triple 𝓤 (𝓣 .C #question) (Question 𝓤 H A mem run) → Triple 𝓤 (𝓣 .C #compute) (Compute 𝓤 H A mem run) → Triple 𝓤 (𝓣 .C #put) (Put 𝓤 H A mem run)
       → Room R (length (x₀ .now)) → Room u8 (length (x₁ .now)) → Room u8 (length (x₂ .now)) → Room u8 (length (x₃ .now))
-      → ent 𝓤 (onEntry 𝓤 H A lens.signature (κ₀, (κ₁, (κ₂, (κ₃, tt)))) (q₀, (q₁, (q₂, (q₃, tt)))) (x₀, (x₁, (x₂, (x₃, tt)))) at) (WpFn 𝓤 H (𝓣 .C) (𝓣 .Λ) code.function (v₀ ∷ v₁ ∷ v₂ ∷ v₃ ∷ []) Post)
+      → ent 𝓤 (onEntry 𝓤 H A ergo.signature (κ₀, (κ₁, (κ₂, (κ₃, tt)))) (q₀, (q₁, (q₂, (q₃, tt)))) (x₀, (x₁, (x₂, (x₃, tt)))) at) (WpFn 𝓤 H (𝓣 .C) (𝓣 .Λ) code.function (v₀ ∷ v₁ ∷ v₂ ∷ v₃ ∷ []) Post)
   walk 𝓣 fm known₀ known₁ known₂ g₀ g₁ g₂ g₃ =
       qed W ((‵ (flft κ₀ q₀) ⊛ ‵ (flft κ₁ q₁) ⊛ ‵ (flft κ₂ q₂) ⊛ ‵ (flft κ₃ q₃) ⊛ ‵ ftrue) ∷ ‵ (owns (ShrSlice (named 0) κ₀ R ∷ ShrSlice (named 1) κ₁ u8 ∷ ShrSlice (named 2) κ₂ u8 ∷ MutSlice (named 3) κ₃ u8 ∷ []) (x₀, (x₁, (x₂, (x₃, tt)))) at) ∷ []) ∵
       enter ! (𝓣 .C) (𝓣 .Λ) code.function (v₀ ∷ v₁ ∷ v₂ ∷ v₃ ∷ []) _ $
@@ -199,15 +199,15 @@ module _ {M : Type 1} (𝓤 : URA M) (H : Heap 𝓤) (A : Atoms 𝓤) (W : Given
       keep ! (4 ∷ 5 ∷ 1 ∷ 2 ∷ 0 ∷ []) $ by ! (exits r w (zs .0) l)))))))))))))))))))))
 
 module _ {M : Type 1} (𝓤 : URA M) (H : Heap 𝓤) (A : Atoms 𝓤) (W : Given 𝓤 H A) (mem : Memory → SProp 𝓤) (run : Routine → Fun 𝓤) (𝓣 : Tables 𝓤 H) (known₀ : Triple 𝓤 (𝓣 .C #question) (Question 𝓤 H A mem run)) (known₁ : Triple 𝓤 (𝓣 .C #compute) (Compute 𝓤 H A mem run)) (known₂ : Triple 𝓤 (𝓣 .C #put) (Put 𝓤 H A mem run)) where
-  lens-walks : Walks 𝓤 H A lens.ended stayed (WpFn 𝓤 H (𝓣 .C) (𝓣 .Λ) code.function) (lens.clauses 𝓤 H A mem run)
-  lens-walks = walked 𝓤 H A lens.ended stayed (lens.clauses 𝓤 H A mem run) (WpFn 𝓤 H (𝓣 .C) (𝓣 .Λ) code.function) (λ κs. (slice-vals, (slice-vals, (slice-vals, (slice-vals, tt)))))
+  ergo-walks : Walks 𝓤 H A ergo.ended stayed (WpFn 𝓤 H (𝓣 .C) (𝓣 .Λ) code.function) (ergo.clauses 𝓤 H A mem run)
+  ergo-walks = walked 𝓤 H A ergo.ended stayed (ergo.clauses 𝓤 H A mem run) (WpFn 𝓤 H (𝓣 .C) (𝓣 .Λ) code.function) (λ κs. (slice-vals, (slice-vals, (slice-vals, (slice-vals, tt)))))
       (λ κs. (shr-slice-tells (named 0) (κs .0) R, (shr-slice-tells (named 1) (κs .1 .0) u8, (shr-slice-tells (named 2) (κs .1 .1 .0) u8, (mut-slice-tells (named 3) (κs .1 .1 .1 .0) u8, tt)))))
       (λ κs qs bounds x g are. via 𝓤 _ (fst∗ 𝓤 _ (emp 𝓤))
       (walk 𝓤 H A W mem run (κs .0) (κs .1 .0) (κs .1 .1 .0) (κs .1 .1 .1 .0) (qs .0) (qs .1 .0) (qs .1 .1 .0) (qs .1 .1 .1 .0) (x .0) (x .1 .0) (x .1 .1 .0) (x .1 .1 .1 .0) 𝓣 (fmOf 𝓤 H (W .laws) 𝓣) known₀ known₁ known₂ (are .0 .0 .1) (are .1 .0 .0 .1) (are .1 .1 .0 .0 .1) (are .1 .1 .1 .0 .0 .1)))
 
-  lens-meets : Meets 𝓤 H A lens.signature (WpFn 𝓤 H (𝓣 .C) (𝓣 .Λ) code.function) (lens.spec 𝓤 H A mem run)
-  lens-meets =
-      walk-meets 𝓤 H A lens.ended stayed W (
+  ergo-meets : Meets 𝓤 H A ergo.signature (WpFn 𝓤 H (𝓣 .C) (𝓣 .Λ) code.function) (ergo.spec 𝓤 H A mem run)
+  ergo-meets =
+      walk-meets 𝓤 H A ergo.ended stayed W (
         goes-dropped 𝓤 H A W 4 (shrSliceOf (0 ∷ []) tt (plain (λ _. R))) yes (λ κs x f. refl),
         (
           goes-dropped 𝓤 H A W 4 (shrSliceOf (1 ∷ []) tt (plain (λ _. u8))) yes (λ κs x f. refl),
@@ -217,14 +217,14 @@ module _ {M : Type 1} (𝓤 : URA M) (H : Heap 𝓤) (A : Atoms 𝓤) (W : Given
           ),
         ),
       )
-      (lens.clauses 𝓤 H A mem run) (WpFn 𝓤 H (𝓣 .C) (𝓣 .Λ) code.function) (WpFn-mono 𝓤 H (W .laws) 𝓣 code.function) lens-walks
+      (ergo.clauses 𝓤 H A mem run) (WpFn 𝓤 H (𝓣 .C) (𝓣 .Λ) code.function) (WpFn-mono 𝓤 H (W .laws) 𝓣 code.function) ergo-walks
 
 pub ergo-boundary-spec : {M : Type 1} → stated.statement M
 unfolding code.routine tablesOf
 ergo-boundary-spec 𝓤 H 𝓜 𝓖 𝓡 =
-    entered 𝓤 H (tripleOf 𝓤 H (𝓖 .A) lens.signature (lens.spec 𝓤 H (𝓖 .A) (𝓜 .mem) (𝓡 .run)))
-    (tables 𝓤 H 𝓜 𝓡 code.env .C) (tables 𝓤 H 𝓜 𝓡 code.env .Λ) #lens code.function (code.unfolded 𝓤 H 𝓜 𝓡)
-    (lens-meets 𝓤 H (𝓖 .A) (givenOf 𝓤 H 𝓜 𝓖) (𝓜 .mem) (𝓡 .run) (tablesOf 𝓤 H 𝓜 (tables 𝓤 H 𝓜 𝓡 code.env))
+    entered 𝓤 H (tripleOf 𝓤 H (𝓖 .A) ergo.signature (ergo.spec 𝓤 H (𝓖 .A) (𝓜 .mem) (𝓡 .run)))
+    (tables 𝓤 H 𝓜 𝓡 code.env .C) (tables 𝓤 H 𝓜 𝓡 code.env .Λ) #ergo code.function (code.unfolded 𝓤 H 𝓜 𝓡)
+    (ergo-meets 𝓤 H (𝓖 .A) (givenOf 𝓤 H 𝓜 𝓖) (𝓜 .mem) (𝓡 .run) (tablesOf 𝓤 H 𝓜 (tables 𝓤 H 𝓜 𝓡 code.env))
     (cited 𝓤 H (Question 𝓤 H (𝓖 .A) (𝓜 .mem) (𝓡 .run)) 𝓜 𝓡 code.env #question question-def.routine code.calls-exports·boundary·question-in (question-thm.met 𝓤 H 𝓜 𝓖 𝓡))
     (cited 𝓤 H (Compute 𝓤 H (𝓖 .A) (𝓜 .mem) (𝓡 .run)) 𝓜 𝓡 code.env #compute compute-def.routine code.calls-lent·boundary·compute-boundary-parameters (compute-thm.met 𝓤 H 𝓜 𝓖 𝓡))
     (cited 𝓤 H (Put 𝓤 H (𝓖 .A) (𝓜 .mem) (𝓡 .run)) 𝓜 𝓡 code.env #put put-def.routine code.calls-extension-answers·update-calls·put-computed (put-thm.met 𝓤 H 𝓜 𝓖 𝓡)))
