@@ -13,6 +13,14 @@ extern "C" {
 
 #define ERGO_TABLE 60u
 #define ERGO_STATE 95u
+#define ERGO_QUESTION 81u
+#define ERGO_COMPUTED 85u
+
+/* An entry of a tally: 8 bytes, the count at 4. */
+typedef struct {
+    int8_t id;
+    uint32_t count;
+} ergo_entry;
 
 /* What ergo_voting_answer says where there is no answer. */
 #define ERGO_NO_CALL ((size_t)0xfffffffe)      /* no call has this number */
@@ -29,6 +37,12 @@ uint8_t ergo_replay(uint8_t *state, size_t state_len, const uint8_t *record, siz
 /* The answer to a call of docs/VECTORS.md, into out from its start, and how many bytes it has. A number above out_len: the answer does
    not fit, or there is none (see above); what out then holds is no answer. */
 size_t ergo_voting_answer(uint8_t call, const uint8_t *input, size_t input_len, uint8_t *out, size_t out_len);
+
+/* The boundary over a list of entries. The question: settings, height, table, flag of the vote 120, in the bytes of docs/VECTORS.md; what
+   lies past its end counts as 0. The answer goes into out from its start, in the bytes of call 30's answer, of which there are 85: that is
+   what is returned. Where it is above out_len, what out holds is no answer. */
+size_t ergo_boundary(const ergo_entry *tally, size_t tally_len, const uint8_t *proposed_update, size_t proposed_update_len,
+                     const uint8_t *question, size_t question_len, uint8_t *out, size_t out_len);
 
 #ifdef __cplusplus
 }

@@ -6,6 +6,8 @@ use archive_answers::replay_calls;
 use rows::values;
 ghost use Rattle.exports.specs.Kept.{Kept};
 
+pub mod boundary;
+
 // No call has this number.
 const NO_CALL: usize = 0xffff_fffe;
 
@@ -31,6 +33,9 @@ pub extern "C" fn ergo_voting_answer(call: u8, input: &[u8], out: &mut [u8]) -> 
     }
     if call < 0x42 {
         return archive_answers::calls::answer_of(call, input, out);
+    }
+    if call < 0x43 {
+        return lent_answers::calls::answer_of(call, input, out);
     }
     NO_CALL
 }

@@ -2,5 +2,5 @@
 mod body_calls;
 pub mod calls;
 mod census_calls;
-mod update_calls;
+pub mod update_calls;
 mod writer_calls;

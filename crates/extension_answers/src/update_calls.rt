@@ -133,14 +133,18 @@ fn computed_of(s: &[u8], proposed_update: &[u8]) -> Computed {
     )
 }
 
-pub fn boundary_with_update(s: &[u8], out: &mut [u8]) -> usize {
-    if s.len() < 96 {
-        return NO_ANSWER;
-    }
-    let c = computed_of(s, &s[96..]);
+// Refusal, table, the activated update.
+pub fn put_computed(out: &mut [u8], c: Computed) -> usize {
     let t = c.table;
     let u = c.activated;
     let first = bytes::put(out, 0, c.refusal);
     let second = values::put_table(out, first, t);
     put_update(out, second, u)
+}
+
+pub fn boundary_with_update(s: &[u8], out: &mut [u8]) -> usize {
+    if s.len() < 96 {
+        return NO_ANSWER;
+    }
+    put_computed(out, computed_of(s, &s[96..]))
 }

@@ -10,6 +10,7 @@ ghost use lib.IntN.{pos};
 use codec::refusal;
 use codec::signed;
 
+#[repr(C)]
 pub struct Entry {
     pub id: i8,
     pub count: u32,

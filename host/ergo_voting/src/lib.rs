@@ -4,11 +4,37 @@
 pub const TABLE: usize = 60;
 pub const STATE: usize = 95;
 
+/// How many bytes a boundary's question has: settings, height, table, flag of the vote 120.
+pub const QUESTION: usize = 81;
+
 const NO_CALL: usize = 0xffff_fffe;
 const WRONG_LENGTH: usize = 0xffff_ffff;
 
+/// An entry of a tally, as the library reads it.
+#[repr(C)]
+#[derive(Debug, Clone, Copy, PartialEq, Eq)]
+pub struct Entry {
+    pub id: i8,
+    pub count: u32,
+}
+
+const _: () = assert!(std::mem::size_of::<Entry>() == 8 && std::mem::align_of::<Entry>() == 4);
+const _: () = assert!(std::mem::offset_of!(Entry, id) == 0 && std::mem::offset_of!(Entry, count) == 4);
+
 mod c {
+    use super::Entry;
+
     extern "C" {
+        pub fn ergo_boundary(
+            tally: *const Entry,
+            tally_len: usize,
+            proposed_update: *const u8,
+            proposed_update_len: usize,
+            question: *const u8,
+            question_len: usize,
+            out: *mut u8,
+            out_len: usize,
+        ) -> usize;
         pub fn ergo_voting_answer(call: u8, input: *const u8, input_len: usize, out: *mut u8, out_len: usize) -> usize;
         pub fn ergo_open(height: u32, table: *const u8, table_len: usize, state: *mut u8, state_len: usize) -> u8;
         pub fn ergo_replay(state: *mut u8, state_len: usize, record: *const u8, record_len: usize, id: *mut u8) -> u8;
@@ -70,4 +96,27 @@ pub fn answer<'a>(call: u8, input: &[u8], out: &'a mut [u8]) -> Result<&'a [u8],
         WRONG_LENGTH => Err(NoAnswer::WrongLength),
         size => out.get(..size).ok_or(NoAnswer::OutTooShort),
     }
+}
+
+/// The boundary over a list of entries, in the bytes of call 30's answer: the part of out that holds it.
+pub fn boundary<'a>(
+    tally: &[Entry],
+    proposed_update: &[u8],
+    question: &[u8; QUESTION],
+    out: &'a mut [u8],
+) -> Result<&'a [u8], NoAnswer> {
+    // As above; an entry here is an entry there.
+    let size = unsafe {
+        c::ergo_boundary(
+            tally.as_ptr(),
+            tally.len(),
+            proposed_update.as_ptr(),
+            proposed_update.len(),
+            question.as_ptr(),
+            question.len(),
+            out.as_mut_ptr(),
+            out.len(),
+        )
+    };
+    out.get(..size).ok_or(NoAnswer::OutTooShort)
 }

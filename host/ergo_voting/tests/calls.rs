@@ -1,6 +1,6 @@
 //! The library is linked, and its refusals come through.
 
-use ergo_voting::{answer, NoAnswer, Refusal, Replay};
+use ergo_voting::{answer, boundary, Entry, NoAnswer, Refusal, Replay, QUESTION};
 
 fn mainnet() -> [u8; 60] {
     let mut out = [0; 60];
@@ -19,7 +19,7 @@ fn a_call_answers() {
 fn no_answer() {
     let mut out = [0; 4];
     assert_eq!(answer(0, &[], &mut out), Err(NoAnswer::NoSuchCall));
-    assert_eq!(answer(0x42, &[], &mut out), Err(NoAnswer::NoSuchCall));
+    assert_eq!(answer(0x43, &[], &mut out), Err(NoAnswer::NoSuchCall));
     assert_eq!(answer(0x11, &[1, 2], &mut out), Err(NoAnswer::WrongLength));
     assert_eq!(answer(0x1a, &[0], &mut out), Err(NoAnswer::OutTooShort));
 }
@@ -44,4 +44,29 @@ fn the_quiet_epoch_is_accepted() {
     assert_eq!(replay.replay(record), Ok(()));
     assert_eq!(replay.0[76..80], 2_048u32.to_be_bytes());
     assert_eq!(replay.replay(record), Err(Refusal { number: 26, id: 0 }));
+}
+
+/// Mainnet's settings and table at the second boundary, no fork vote.
+fn question() -> [u8; QUESTION] {
+    let mut settings = [0; 16];
+    answer(0x22, &[0], &mut settings).expect("mainnet's settings");
+    let question = [&settings[..], &2_048u32.to_be_bytes(), &mainnet(), &[0]].concat();
+    question.try_into().expect("a question")
+}
+
+#[test]
+fn entries_of_a_list_read_the_old_table() {
+    let mut out = [0; 85];
+    let up = Entry { id: 1, count: 513 };
+    let given = boundary(&[up, up, Entry { id: 2, count: 512 }], &[], &question(), &mut out).expect("an answer");
+    assert_eq!(given[..6], [&[0, 1], &1_275_000u32.to_be_bytes()[..]].concat());
+    assert_eq!(given[6..61], mainnet()[5..]);
+    assert_eq!(given[61..], [0; 24]);
+}
+
+#[test]
+fn a_list_without_entries_leaves_the_table() {
+    let mut out = [0; 85];
+    assert_eq!(boundary(&[], &[], &question(), &mut out).expect("an answer")[1..61], mainnet());
+    assert_eq!(boundary(&[], &[], &question(), &mut out[..84]), Err(NoAnswer::OutTooShort));
 }

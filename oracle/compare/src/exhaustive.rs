@@ -26,7 +26,7 @@ fn short_bodies() -> Report {
     let mut report = Report::default();
     for end in short_strings(2) {
         let body = [&[0xa5; 32][..], &end].concat();
-        [0x25, 0x26, 0x29, 0x2a, 0x2b, 0x35].into_iter().for_each(|call| report.compare(call, &body));
+        [0x25, 0x26, 0x29, 0x2a, 0x2b, 0x35, 0x42].into_iter().for_each(|call| report.compare(call, &body));
     }
     report.compare(0x36, &[]);
     report

@@ -2,6 +2,7 @@
 //! line for each kind of inputs, and fails if an answer differs or a kind had no input.
 
 mod exhaustive;
+mod lent;
 mod report;
 mod streams;
 mod users;
@@ -18,6 +19,7 @@ fn main() -> ExitCode {
     let exhaustive = exhaustive::KINDS.iter().map(|(name, run)| print(name, run()));
     let random = KINDS.iter().map(|kind| print(kind.name, run(kind, &mut Random::new(seed))));
     let mut reports: Vec<Report> = exhaustive.chain(random).collect();
+    reports.push(print("boundary over a lent list", lent::run(&mut Random::new(seed))));
     reports.push(print("ergo_open and ergo_replay", users::run(&mut Random::new(seed))));
     reports.push(print("lines over streams", streams::run(&mut Random::new(seed))));
     let [compared, differ, outside] =

@@ -1,7 +1,8 @@
 //! The calls of `extension`. The Rust hands fields, rules and statuses back; where they stand in the bytes is found here, by the
 //! stand-in's reader.
 
-use chain::voting::{self, ExtensionField, ValidationSettingsUpdate};
+use chain::voting::{self, ExtensionField, ValidationSettingsUpdate, VotingConfig};
+use ergo_lib::chain::parameters::Parameters;
 use ergo_lib::ergotree_ir::serialization::SigmaSerializable;
 use ergo_lib::ergotree_ir::validation::RuleStatus;
 use sigma_ser::vlq_encode::ReadSigmaVlqExt;
@@ -42,6 +43,8 @@ pub fn answer(call: u8, input: &[u8]) -> Given {
         0x37 => short_updates(input),
         0x38 => cuts(input, |cut| number_of(&checked(cut)?)),
         0x39 => cuts(input, |cut| number_of(&rules::parse_update(cut))),
+        0x42 => read_fields(input),
+        0x43 => lent_boundary(&mut Input(input)),
         _ => Err(Gap::NoCounterpart),
     }
 }
@@ -99,6 +102,13 @@ fn fields(body: &[u8]) -> Given {
         out.extend(id);
         out.extend(field_bytes(&fields));
     }
+    Ok(out.into())
+}
+
+/// The fields, and 0 after the last one. A body that is refused has none.
+fn read_fields(body: &[u8]) -> Given {
+    let mut out = parse(body)?.map_or(Vec::new(), |(_, fields)| field_bytes(&fields));
+    out.push(0);
     Ok(out.into())
 }
 
@@ -186,11 +196,22 @@ const TELLING: [u8; 4] = [1, 0xd7, 1, 0];
 fn boundary(input: &mut Input) -> Given {
     let (settings, height, old) = (input.settings()?, input.u32()?, input.table()?);
     let (tally, vote) = (input.tally()?, input.flag()?);
-    let bytes = input.rest();
-    let ask = |update: &[u8]| rules::boundary(&settings, height, &old, &tally, vote, update);
+    boundary_of(&settings, height, &old, &tally, vote, input.rest())
+}
+
+/// A list of entries of any length, any of them with id 0.
+fn lent_boundary(input: &mut Input) -> Given {
+    let (settings, height, old) = (input.settings()?, input.u32()?, input.table()?);
+    let (vote, count) = (input.flag()?, input.count()?);
+    let tally = list(input, count, |input| Ok((input.byte()? as i8, input.u32()?)))?;
+    boundary_of(&settings, height, &old, &tally, vote, input.rest())
+}
+
+fn boundary_of(settings: &VotingConfig, height: u32, old: &Parameters, tally: &[(i8, u32)], vote: bool, bytes: &[u8]) -> Given {
+    let ask = |update: &[u8]| rules::boundary(settings, height, old, tally, vote, update);
     let result = ask(bytes);
     let activated = ask(&TELLING).is_ok_and(|(_, update)| !update.rules.is_empty());
-    let mut out = refused_table(&result.clone().map(|(table, _)| table), &old)?;
+    let mut out = refused_table(&result.clone().map(|(table, _)| table), old)?;
     match result {
         Ok((_, update)) if activated => put_update_places(&mut out, bytes, &update),
         Ok((_, update)) => {

@@ -5,7 +5,7 @@ mod damage;
 mod numbers;
 pub mod random;
 pub mod records;
-mod updates;
+pub mod updates;
 pub mod voting;
 mod writers;
 

@@ -3,8 +3,10 @@
 use super::bodies::vlq;
 use super::damage::damaged;
 use super::random::Random;
-use super::voting::boundary_input;
+use super::voting::{boundary_input, near_round, settings, vote};
 use super::Asked;
+use crate::answers::bytes::{put_count, put_settings, put_table, put_u32};
+use crate::rules::{self, Tally};
 
 /// A rule: around those that may not be disabled.
 pub fn rule(random: &mut Random) -> u32 {
@@ -60,4 +62,62 @@ pub fn boundaries(random: &mut Random) -> Vec<Asked> {
     let update = update(random);
     input.extend(damaged(random, update));
     vec![(0x30, input)]
+}
+
+/// Entries of a list of up to eight: ids repeated, negated, several 120, now and then 0 or -128; counts near half the length.
+fn entries(random: &mut Random, length: u32) -> Tally {
+    let mut tally = Tally::new();
+    for _ in 0..random.below(9) {
+        let id = match (random.below(8), tally.len()) {
+            (0, 1..) => tally[random.below(tally.len())].0,
+            (1, 1..) => tally[random.below(tally.len())].0.wrapping_neg(),
+            (2, _) => 120,
+            (3, _) => random.pick(&[0, 0, -128, -128, -120, 9, -9, 127]),
+            _ => vote(random) as i8,
+        };
+        let count = match random.below(8) {
+            0 | 1 => random.number(),
+            2 => random.pick(&[0, 1, u32::MAX - 1, u32::MAX]),
+            _ => random.near(length / 2),
+        };
+        tally.push((id, count));
+    }
+    tally
+}
+
+/// Settings, height, table, flag of the vote 120; a count and as many entries; an update.
+pub fn lent_boundaries(random: &mut Random) -> Vec<Asked> {
+    let mut settings = settings(random);
+    let tally = entries(random, settings.voting_length);
+    let (table, height) = near_round(random, &settings, &tally);
+    if random.one_in(4) {
+        settings.version2_activation_height = height;
+    }
+    let mut input = Vec::new();
+    put_settings(&mut input, &settings);
+    put_u32(&mut input, height);
+    put_table(&mut input, &table);
+    input.push(random.one_in(2).into());
+    put_count(&mut input, tally.len());
+    for (id, count) in tally {
+        input.push(id as u8);
+        put_u32(&mut input, count);
+    }
+    input.extend(proposed(random));
+    vec![(0x43, input)]
+}
+
+/// An update: none, one of rules that may be disabled, or any.
+fn proposed(random: &mut Random) -> Vec<u8> {
+    match random.below(4) {
+        0 | 1 => Vec::new(),
+        2 => {
+            let rules: Vec<u16> = (0..1 + random.below(3)).map(|_| random.pick(&[215, 409, 409, 32_000])).collect();
+            rules::encode_rules(&rules).expect("a few rules")
+        }
+        _ => {
+            let update = update(random);
+            damaged(random, update)
+        }
+    }
 }
