@@ -1,4 +1,4 @@
-//! Times the port and the Rust over the same records in memory, and program `replay` beside `sha256sum`. docs/PERFORMANCE.md.
+//! Times the port and the Rust over the same records in memory, and program `replay` beside `sha256sum`.
 
 mod streams;
 
