@@ -1,7 +1,7 @@
 -- The fork check of a header. docs/RULES.md, "Fork check".
 -- Assumes nothing.
 use Prim.Native.Nat.{ℕ, _+_, _*_}
-use mathlib.Core.Bool.{Bool, not, cond, _&&_, _||_}
+use mathlib.Core.Bool.{Bool, true, false, not, cond, _&&_, _||_}
 use mathlib.Core.List.{List}
 use lib.IntN.{ℤ, pos, _+ℤ_}
 use lib.Signed.{ltZ, leZ}
@@ -46,3 +46,12 @@ unfoldable pub forkRefusal : ForkVote → ℕ
 forkRefusal Allowed = 0
 forkRefusal Barred = forkVoteBarred
 forkRefusal (Refused n) = n
+
+-- every header below this height is allowed, since no round is open there or its votes are still collected
+unfoldable pub roundOpen : VotingConfig → ℕ → Value → Value → Bool
+roundOpen g end Absent votes = true
+roundOpen g end (Number start) Absent = false
+roundOpen g end (Number start) (Number votes) = leZ (pos end) (epochsAfter g start (voteEpochs g))
+
+unfoldable pub votesOpen : VotingConfig → ℕ → Table → Bool
+votesOpen g end t = not (settingsLarge g) && roundOpen g end (lookup t 122) (lookup t 121)
