@@ -4,7 +4,7 @@ use voting::header;
 use voting::settings::VotingConfig;
 use voting::table::Table;
 ghost use mathlib.Core.Path.{_≡_};
-ghost use mathlib.Core.Bool.{false};
+ghost use mathlib.Core.Bool.{false, not};
 ghost use Prim.Native.Nat.{_+_, _/_, _≤_};
 ghost use lib.Dec.{eqb};
 ghost use lib.ListN.{length};
@@ -15,13 +15,29 @@ ghost use Rattle.archive.specs.Headers.{checkHeaders, checkForkVotes};
 pub fn check_headers(votes: &[u8]) -> u8
     ensures { λ r. ⌜ r ≡ checkHeaders (now (votes .entry)) ⌝ }
 {
+    if !any_vote(votes) {
+        return 0;
+    }
     if any_illegal(votes) {
         return first_illegal(votes);
     }
     0
 }
 
-// Whether a header is illegal. The loop goes to its end in any case: that is quicker than a way out of it.
+// Whether a byte is a vote. This loop and the two below go to their end in any case: that is quicker than a way out of them.
+fn any_vote(votes: &[u8]) -> bool
+    ensures { λ r. ⌜ (r ≡ false → count (λ x. not (eqb x 0)) (now (votes .entry)) ≡ 0) ⌝ }
+{
+    let mut found = false;
+    let mut i: usize = 0;
+    while i < votes.len() {
+        found = found | (votes[i] != 0);
+        i += 1;
+    }
+    found
+}
+
+// Whether a header is illegal.
 fn any_illegal(votes: &[u8]) -> bool
     ensures { λ r. ⌜ (r ≡ false → 0 ≡ checkHeaders (now (votes .entry))) ⌝ }
 {
@@ -57,6 +73,10 @@ pub(crate) fn check_fork_votes(config: VotingConfig, table: Table, height: u32, 
     requires { ⌜ height + length (now votes) / 3 ≤ 4294967295 ⌝ }
     ensures { λ r. ⌜ r ≡ checkForkVotes config table height (now (votes .entry)) ⌝ }
 {
+    let n = votes.len() / 3;
+    if fork::votes_open(config, height + n as u32, table) {
+        return 0;
+    }
     if config.settings_large() {
         return first_barred(config, table, height, votes);
     }
@@ -66,14 +86,14 @@ pub(crate) fn check_fork_votes(config: VotingConfig, table: Table, height: u32, 
     0
 }
 
-// Whether a byte is the vote for the fork; as above without a way out.
+// Whether a byte is the vote for the fork.
 fn any_fork_vote(votes: &[u8]) -> bool
     ensures { λ r. ⌜ (r ≡ false → count (eqb 120) (now (votes .entry)) ≡ 0) ⌝ }
 {
     let mut found = false;
     let mut i: usize = 0;
     while i < votes.len() {
-        found = found | (votes[i] == header::SOFT_FORK_VOTE);
+        found = found | (header::SOFT_FORK_VOTE == votes[i]);
         i += 1;
     }
     found

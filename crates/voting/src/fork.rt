@@ -4,7 +4,7 @@ ghost use mathlib.Core.Bool.{false, cond};
 ghost use Prim.Native.Nat.{_+_, _*_, _<_};
 ghost use lib.IntN.{pos, _+ℤ_};
 ghost use Rattle.voting.specs.Settings.{votingLength, settingsLarge};
-ghost use Rattle.voting.specs.ForkCheck.{barred, checkRound, checkForkVote, forkRefusal};
+ghost use Rattle.voting.specs.ForkCheck.{barred, checkRound, checkForkVote, forkRefusal, roundOpen, votesOpen};
 ghost use Rattle.voting.specs.ForkPart.{noRound, forkTotal, roundSteps, roundBy, roundFrom, roundAt, votesAfter, startAfter, risen, forced, versionAfter, forkAfter};
 use crate::header;
 use crate::settings::VotingConfig;
@@ -95,6 +95,31 @@ pub fn check_fork_vote(config: VotingConfig, height: u32, votes: [u8; 3], table:
         return check_round(config, height, s, n);
     }
     ForkVote::Allowed
+}
+
+fn round_open(config: VotingConfig, end: u32, start: Value, votes: Value) -> bool
+    ensures { λ r. ⌜ r ≡ roundOpen config end start votes ⌝ }
+{
+    match start {
+        Value::Absent => true,
+        Value::Number(s) => match votes {
+            Value::Absent => false,
+            Value::Number(_) => {
+                let from = epochs_after(s, config.voting_length, config.soft_fork_epochs);
+                end as u64 + 2147483648 <= from
+            }
+        },
+    }
+}
+
+// For the layers above: whether every header below a height is allowed, since no round is open or its votes are still collected there.
+pub fn votes_open(config: VotingConfig, end: u32, table: Table) -> bool
+    ensures { λ r. ⌜ r ≡ votesOpen config end table ⌝ }
+{
+    let f = table.fork;
+    let s = f.start;
+    let n = f.votes;
+    !config.settings_large() & round_open(config, end, s, n)
 }
 
 impl ForkVote {

@@ -14,10 +14,11 @@ use Rattle.voting.specs.declared.settings.VotingConfig.{VotingConfig}
 use Rattle.voting.specs.declared.table.Table.{Table}
 use Rattle.voting.specs.Common.{count, first}
 use Rattle.voting.specs.Settings.{settingsLarge}
-use Rattle.voting.specs.Header.{checkHeaderVotes, votesFor}
+use Rattle.voting.specs.Header.{votesIn, faultIn, checkVotes, checkHeaderVotes, votesFor}
 use Rattle.voting.specs.Tally.{headers}
-use Rattle.voting.specs.ForkCheck.{checkForkVote, forkRefusal}
+use Rattle.voting.specs.ForkCheck.{checkForkVote, forkRefusal, votesOpen}
 use Rattle.voting.proofs.Laws.Header.{first-pass, first-stop}
+use Rattle.voting.proofs.Laws.Fork.{open-allows}
 use Rattle.voting.proofs.Laws.Tally.{count-here, count-end}
 use Rattle.archive.specs.Headers.{headersRefusal, checkHeaders, forkRefusals}
 
@@ -104,15 +105,42 @@ module _ (s : List ℕ) (i : ℕ) (found : Bool) where
   unfolding checkHeaders
   illegal-end h inv q = checks-end s i h ∙ inv q
 
-  -- a vote for the fork: one byte further
-  pub fork-on : i < length s → (found ≡ false → count (eqb 120) (drop i s) ≡ count (eqb 120) s) → found || eqb (getD s i 0) 120 ≡ false → count (eqb 120) (drop (i + 1) s) ≡ count (eqb 120) s
-  fork-on h inv q =
-      let b : eqb 120 (getD s i 0) ≡ false = ne-eqb 120 (getD s i 0) (λ z. eqb-false (getD s i 0) 120 (found-right found (eqb (getD s i 0) 120) q) (sym z)) in
-      let k : _≡_ {A = ℕ} (cond (eqb 120 (getD s i 0)) 1 0) 0 = ap (λ (x : Bool). cond x 1 0) b in
-      omega (arith, k, count-here (eqb 120) s i h, inv (found-left found (eqb (getD s i 0) 120) q))
+  -- a byte of a kind: one byte further
+  module _ (p : ℕ → Bool) where
+    pub found-on : i < length s → (found ≡ false → count p (drop i s) ≡ count p s) → found || p (getD s i 0) ≡ false → count p (drop (i + 1) s) ≡ count p s
+    found-on h inv q =
+        let k : _≡_ {A = ℕ} (cond (p (getD s i 0)) 1 0) 0 = ap (λ (x : Bool). cond x 1 0) (found-right found (p (getD s i 0)) q) in
+        omega (arith, k, count-here p s i h, inv (found-left found (p (getD s i 0)) q))
 
-  pub fork-end : length s ≤ i → (found ≡ false → count (eqb 120) (drop i s) ≡ count (eqb 120) s) → found ≡ false → count (eqb 120) s ≡ 0
-  fork-end h inv q = sym (inv q) ∙ count-end (eqb 120) s i h
+    pub found-end : length s ≤ i → (found ≡ false → count p (drop i s) ≡ count p s) → found ≡ false → count p s ≡ 0
+    found-end h inv q = sym (inv q) ∙ count-end p s i h
+
+-- without a vote every header is legal
+pub none-found : (found : Bool) → not found ≡ true → found ≡ false
+none-found true q = absurd (true≢false (sym q))
+none-found false q = refl
+
+no-vote : (x n : ℕ) → cond (not (eqb x 0)) 1 0 + n ≡ 0 → x ≡ 0
+no-vote x n z = not-found x (go (eqb x 0) z)
+  where
+    go : (b : Bool) → cond (not b) 1 0 + n ≡ 0 → not b ≡ false
+    go true z = refl
+    go false z = absurd (omega (arith, z))
+
+none-legal : checkHeaderVotes (0 ∷ 0 ∷ 0 ∷ []) ≡ 0
+unfolding checkHeaderVotes checkVotes votesIn faultIn count
+none-legal = refl
+
+pub quiet-headers : (votes : List ℕ) → count (λ x. not (eqb x 0)) votes ≡ 0 → 0 ≡ headersRefusal (headers votes)
+unfolding headersRefusal headers count first
+quiet-headers [] z = refl
+quiet-headers (a ∷ []) z = refl
+quiet-headers (a ∷ b ∷ []) z = refl
+quiet-headers (a ∷ b ∷ c ∷ votes) z =
+    let a₀ = no-vote a _ z in
+    let b₀ = no-vote b (count (λ x. not (eqb x 0)) (c ∷ votes)) (omega (arith, z)) in
+    let c₀ = no-vote c (count (λ x. not (eqb x 0)) votes) (omega (arith, z)) in
+    rw (a₀, b₀, c₀, none-legal) (quiet-headers votes (omega (arith, z)))
 
 -- without a vote for the fork every header is allowed
 quiet-header : (g : VotingConfig) (height : ℕ) (h : List ℕ) (t : Table) → settingsLarge g ≡ false → count (eqb 120) h ≡ 0 → forkRefusal (checkForkVote g height h t) ≡ 0
@@ -127,3 +155,13 @@ quiet-forks g t l (a ∷ b ∷ []) height z = refl
 quiet-forks g t l (a ∷ b ∷ c ∷ votes) height z =
     let q = quiet-header g height (a ∷ b ∷ c ∷ []) t l (omega (arith, z)) in
     rw q (quiet-forks g t l votes (height + 1) (omega (arith, z)))
+
+-- where every header below a height is allowed, so are all that stand below it
+pub open-forks : (g : VotingConfig) (t : Table) (end : ℕ) → votesOpen g end t ≡ true → (votes : List ℕ) (height : ℕ) → height + length votes / 3 ≤ end → 0 ≡ forkRefusals g t height (headers votes)
+unfolding forkRefusals headers first
+open-forks g t end o [] height h = refl
+open-forks g t end o (a ∷ []) height h = refl
+open-forks g t end o (a ∷ b ∷ []) height h = refl
+open-forks g t end o (a ∷ b ∷ c ∷ votes) height h =
+    let q = open-allows g end t o height (a ∷ b ∷ c ∷ []) (omega arith) in
+    rw q (open-forks g t end o votes (height + 1) (omega arith))

@@ -1,13 +1,14 @@
 -- The fork check and the fork part, by the ways through the code.
 -- Assumes nothing.
 use mathlib.Core.Path.{_≡_, refl, sym, ap, _∙_}
-use mathlib.Core.Bool.{Bool, true, false, not, cond, _&&_, _||_}
+use mathlib.Core.Bool.{Bool, true, false, not, cond, _&&_, _||_, true≢false}
 use Prim.Native.Nat.{ℕ, _+_, _*_, _<_, _^_}
 use mathlib.Core.List.{List}
 use lib.Dec.{ltb, leb, eqb}
 use native.Mathlib.Omega.{arith}
-use borrow.Author.Tests.{eq-eqb, ne-eqb}
-use lib.IntN.{ℤ, pos, _+ℤ_}
+use borrow.Author.Tests.{leb-true, lt-leb, eq-eqb, ne-eqb}
+use lib.IntN.{ℤ, pos, negsuc, _+ℤ_}
+use lib.Signed.{leZ}
 use mir.Syntax.{w32}
 use mir.Val.{SFits, toZ, ofZ}
 use mir.ValLaws.{toZ-ofZ}
@@ -26,7 +27,7 @@ use Rattle.voting.specs.Common.{eqZ}
 use Rattle.voting.specs.Settings.{votingLength, voteEpochs, activationEpochs, softForkApproved, settingsLarge}
 use Rattle.voting.specs.Table.{lookup, forkEntries}
 use Rattle.voting.specs.Header.{votesFor}
-use Rattle.voting.specs.ForkCheck.{epochsAfter, between, barred, checkRound, checkForkVote, forkRefusal}
+use Rattle.voting.specs.ForkCheck.{epochsAfter, between, barred, checkRound, checkForkVote, forkRefusal, roundOpen, votesOpen}
 use Rattle.voting.specs.ForkPart.{noRound, happens, roundRefused, forkTotal, roundSteps, roundBy, roundFrom, roundAt, storedOr, votesAfter, startAfter, risen, forced, versionAfter}
 use Rattle.voting.proofs.Laws.Integers.{at-exactly, at-most, at-least, below}
 
@@ -87,6 +88,50 @@ module _ (g : VotingConfig) (h : ℕ) (votes : List ℕ) (t : Table) (large : Bo
     pub check-voting : v ≡ true → (r : ForkVote) → r ≡ checkRound g h (t .fork .start) (t .fork .votes) → r ≡ checkForkVote g h votes t
     unfolding checkForkVote lookup
     check-voting e r is-r = is-r ∙ sym (rw (← is-large, small, ← is-v, e))
+
+-- ---- the heights below which each vote for the fork is allowed
+
+module _ (g : VotingConfig) (end : ℕ) (start votes : Value) where
+  pub open-none : start ≡ Absent → true ≡ roundOpen g end start votes
+  unfolding roundOpen
+  open-none e = rw e
+
+  module _ (s : ℤ) (is-s : start ≡ Number s) where
+    pub open-orphan : votes ≡ Absent → false ≡ roundOpen g end start votes
+    unfolding roundOpen
+    open-orphan e = rw (is-s, e)
+
+    pub open-below : (n : ℤ) → votes ≡ Number n → (from : ℕ) → Shifted g s (voteEpochs g) from → leb (end + 2147483648) from ≡ roundOpen g end start votes
+    unfolding roundOpen
+    open-below n is-n from e = rw (is-s, is-n) (at-most end from (epochsAfter g s (voteEpochs g)) e)
+
+pub open-told : (g : VotingConfig) (end : ℕ) (t : Table) (large held : Bool) → large ≡ settingsLarge g → held ≡ roundOpen g end (t .fork .start) (t .fork .votes) → (not large && held) ≡ votesOpen g end t
+unfolding votesOpen lookup
+open-told g end t large held a b = rw (a, b)
+
+not-yet : (end h : ℕ) (z : ℤ) → leZ (pos end) z ≡ true → h < end → leZ z (pos h) ≡ false
+not-yet end h (pos a) e b = lt-leb a h (omega (arith, leb-true end a e))
+not-yet end h (negsuc a) e b = absurd (true≢false (sym e))
+
+unbarred : (g : VotingConfig) (end h : ℕ) (s n : ℤ) → leZ (pos end) (epochsAfter g s (voteEpochs g)) ≡ true → h < end → barred g h s n ≡ false
+unfolding barred between
+unbarred g end h s n e b = rw (not-yet end h (epochsAfter g s (voteEpochs g)) e b)
+
+round-allows : (g : VotingConfig) (end h : ℕ) (start votes : Value) → roundOpen g end start votes ≡ true → h < end → forkRefusal (checkRound g h start votes) ≡ 0
+unfolding roundOpen checkRound forkRefusal
+round-allows g end h Absent votes e b = refl
+round-allows g end h (Number s) Absent e b = absurd (true≢false (sym e))
+round-allows g end h (Number s) (Number n) e b = rw (unbarred g end h s n e b)
+
+pub open-allows : (g : VotingConfig) (end : ℕ) (t : Table) → votesOpen g end t ≡ true → (h : ℕ) (votes : List ℕ) → h < end → forkRefusal (checkForkVote g h votes t) ≡ 0
+unfolding votesOpen checkForkVote forkRefusal
+open-allows g end t e h votes b = go (settingsLarge g) (votesFor 120 votes) e
+  where
+    go : (large v : Bool) → (not large && roundOpen g end (lookup t 122) (lookup t 121)) ≡ true
+        → forkRefusal (cond large (Refused 18) (cond v (checkRound g h (lookup t 122) (lookup t 121)) Allowed)) ≡ 0
+    go true v e = absurd (true≢false (sym e))
+    go false true e = round-allows g end h (lookup t 122) (lookup t 121) e b
+    go false false e = refl
 
 -- ---- what happens to a round
 

@@ -1,5 +1,5 @@
 -- `archive::headers::any_fork_vote` meets its contract. Assumes nothing.
-use Rattle.archive.proofs.Laws.Headers.{fork-on, fork-end}
+use Rattle.archive.proofs.Laws.Headers.{found-on, found-end}
 use mathlib.Core.Path.{_≡_, refl}
 use mathlib.Core.Bool.{false}
 use Prim.Native.Nat.{_-_}
@@ -29,10 +29,10 @@ loop-less : tie.Need-loop-less Inv-loop μ-loop
 loop-less c = search needs
 
 loop-again : tie.Need-loop-again Inv-loop μ-loop
-loop-again c = fork-on _ _ _ (c .before .loop-test .taken) (c .before .before .loop .inv)
+loop-again c = found-on _ _ _ (eqb 120) (c .before .loop-test .taken) (c .before .before .loop .inv)
 
 returns : tie.Need-returns Inv-loop μ-loop
-returns c = fork-end _ _ _ (c .loop-test .left) (c .before .loop .inv)
+returns c = found-end _ _ _ (eqb 120) (c .loop-test .left) (c .before .loop .inv)
 
 pub any-fork-vote-spec : {M : Type 1} → statement M
 any-fork-vote-spec =

@@ -1,10 +1,24 @@
 -- `archive::headers::check_fork_votes` meets its contract. Assumes nothing.
-use Rattle.archive.proofs.Laws.Headers.{quiet-forks}
-use Rattle.archive.specs.Headers.{checkForkVotes}
 use mathlib.Core.Path.{sym, _∙_}
+use native.Mathlib.Omega.{arith}
+use Rattle.archive.proofs.Laws.Headers.{quiet-forks, open-forks}
+use Rattle.archive.specs.Headers.{checkForkVotes}
 use borrow.Author.Needs.{needs}
 use Rattle.archive.proofs.headers.check_fork_votes.Statement.{statement}
 use Rattle.archive.proofs.headers.check_fork_votes.Tie as tie
+
+cast-votes-open : tie.Need-cast-votes-open
+cast-votes-open c = search needs
+
+add-votes-open : tie.Need-add-votes-open
+add-votes-open c = search needs
+
+votes-open-requires : tie.Need-votes-open-requires
+votes-open-requires c κs = search needs
+
+returns : tie.Need-returns
+unfolding checkForkVotes
+returns c = open-forks _ _ _ (sym (c .before .votes-open .ensures) ∙ c .if1 .taken) _ _ (omega arith)
 
 settings-large-requires : tie.Need-settings-large-requires
 settings-large-requires c κs = search needs
@@ -12,8 +26,8 @@ settings-large-requires c κs = search needs
 first-barred-requires : tie.Need-first-barred-requires
 first-barred-requires c κs = search needs
 
-returns : tie.Need-returns
-returns c = search needs
+returns-2 : tie.Need-returns-2
+returns-2 c = search needs
 
 any-fork-vote-requires : tie.Need-any-fork-vote-requires
 any-fork-vote-requires c κs = search needs
@@ -21,21 +35,25 @@ any-fork-vote-requires c κs = search needs
 first-barred-requires-2 : tie.Need-first-barred-requires-2
 first-barred-requires-2 c κs = search needs
 
-returns-2 : tie.Need-returns-2
-returns-2 c = search needs
-
 returns-3 : tie.Need-returns-3
+returns-3 c = search needs
+
+returns-4 : tie.Need-returns-4
 unfolding checkForkVotes
-returns-3 c = quiet-forks _ _ (sym (c .before .before .before .settings-large .ensures) ∙ c .before .before .if1 .left) _ _ (c .before .any-fork-vote .ensures (c .if2 .left))
+returns-4 c = quiet-forks _ _ (sym (c .before .before .before .settings-large .ensures) ∙ c .before .before .if2 .left) _ _ (c .before .any-fork-vote .ensures (c .if3 .left))
 
 pub check-fork-votes-spec : {M : Type 1} → statement M
 check-fork-votes-spec =
     tie.close
     (tie.spec
+    cast-votes-open
+    add-votes-open
+    votes-open-requires
+    returns
     settings-large-requires
     first-barred-requires
-    returns
+    returns-2
     any-fork-vote-requires
     first-barred-requires-2
-    returns-2
-    returns-3)
+    returns-3
+    returns-4)
