@@ -3,9 +3,9 @@
 use super::bodies::vlq;
 use super::damage::damaged;
 use super::random::Random;
-use super::voting::{boundary_input, near_round, settings, vote};
+use super::voting::{at_boundary, boundary_input, vote};
 use super::Asked;
-use crate::answers::bytes::{put_count, put_settings, put_table, put_u32};
+use crate::answers::bytes::{put_count, put_u32};
 use crate::rules::{self, Tally};
 
 /// A rule: around those that may not be disabled.
@@ -87,16 +87,7 @@ fn entries(random: &mut Random, length: u32) -> Tally {
 
 /// Settings, height, table, flag of the vote 120; a count and as many entries; an update.
 pub fn lent_boundaries(random: &mut Random) -> Vec<Asked> {
-    let mut settings = settings(random);
-    let tally = entries(random, settings.voting_length);
-    let (table, height) = near_round(random, &settings, &tally);
-    if random.one_in(4) {
-        settings.version2_activation_height = height;
-    }
-    let mut input = Vec::new();
-    put_settings(&mut input, &settings);
-    put_u32(&mut input, height);
-    put_table(&mut input, &table);
+    let (mut input, tally) = at_boundary(random, entries);
     input.push(random.one_in(2).into());
     put_count(&mut input, tally.len());
     for (id, count) in tally {

@@ -105,10 +105,10 @@ pub fn tally(random: &mut Random, length: u32) -> Tally {
     tally
 }
 
-/// Settings, height, table, tally and the flag of the vote 120. Now and then the height is that of version 2.
-pub fn boundary_input(random: &mut Random) -> Vec<u8> {
+/// Settings, height and table, near a round of a tally made for the settings' length. Now and then the height is that of version 2.
+pub fn at_boundary(random: &mut Random, make: fn(&mut Random, u32) -> Tally) -> (Vec<u8>, Tally) {
     let mut settings = settings(random);
-    let tally = tally(random, settings.voting_length);
+    let tally = make(random, settings.voting_length);
     let (table, height) = near_round(random, &settings, &tally);
     if random.one_in(4) {
         settings.version2_activation_height = height;
@@ -117,6 +117,12 @@ pub fn boundary_input(random: &mut Random) -> Vec<u8> {
     put_settings(&mut input, &settings);
     put_u32(&mut input, height);
     put_table(&mut input, &table);
+    (input, tally)
+}
+
+/// Settings, height, table, tally and the flag of the vote 120.
+pub fn boundary_input(random: &mut Random) -> Vec<u8> {
+    let (mut input, tally) = at_boundary(random, tally);
     put_tally(&mut input, &tally, IN_ORDER);
     input.push(random.one_in(2).into());
     input
