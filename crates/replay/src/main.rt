@@ -15,10 +15,16 @@ ghost use lib.ListN.{length, take};
 ghost use Rattle.archive.specs.Lines.{headLine};
 ghost use Rattle.archive.specs.Run.{textOf, Ready};
 
-// A run, and how many bytes wait at the start of the output buffer.
+// How many bytes wait at the start of the output buffer, and whether a write failed. After one that failed nothing more is written, so that
+// what stands there has no gap, and no last line.
+struct Waiting {
+    wrote: usize,
+    failed: bool,
+}
+
 struct Going {
     run: Run,
-    wrote: usize,
+    waiting: Waiting,
 }
 
 // Puts a line behind what waits.
@@ -43,86 +49,106 @@ fn add_head(out: &mut [u8]) -> usize
     }
 }
 
-fn flush(out: &[u8], wrote: usize)
-    requires { ⌜ wrote ≤ length (now out) ⌝ }
+// Writes what waits; whether this write or one before failed.
+fn flush(out: &[u8], waiting: Waiting) -> bool
+    requires { ⌜ waiting .wrote ≤ length (now out) ⌝ }
 {
-    io::write_all(libc::STDOUT_FILENO, &out[0..wrote]);
+    if waiting.failed {
+        return true;
+    }
+    let n = waiting.wrote;
+    !io::write_all(libc::STDOUT_FILENO, &out[0..n])
 }
 
 // Room for a line: what waits is written where there is none.
-fn make_room(out: &[u8], wrote: usize) -> usize
-    requires { ⌜ (wrote ≤ length (now out)) × (64 ≤ length (now out)) ⌝ }
-    ensures { λ r. ⌜ r + 47 ≤ length (now (out .entry)) ⌝ }
+fn make_room(out: &[u8], waiting: Waiting) -> Waiting
+    requires { ⌜ (waiting .wrote ≤ length (now out)) × (64 ≤ length (now out)) ⌝ }
+    ensures { λ r. ⌜ r .wrote + 47 ≤ length (now (out .entry)) ⌝ }
 {
-    if out.len() - wrote < 64 {
-        flush(out, wrote);
-        return 0;
+    if out.len() - waiting.wrote < 64 {
+        let failed = flush(out, waiting);
+        return Waiting { wrote: 0, failed };
     }
-    wrote
+    waiting
 }
 
-fn print_line(out: &mut [u8], wrote: usize, print: Print) -> usize
-    requires { ⌜ (wrote ≤ length (now out)) × (64 ≤ length (now out)) ⌝ }
-    ensures { λ r. ⌜ r ≤ length (now (out .entry)) ⌝ }
+fn print_line(out: &mut [u8], waiting: Waiting, print: Print) -> Waiting
+    requires { ⌜ (waiting .wrote ≤ length (now out)) × (64 ≤ length (now out)) ⌝ }
+    ensures { λ r. ⌜ r .wrote ≤ length (now (out .entry)) ⌝ }
 {
-    let w = make_room(out, wrote);
-    add(out, w, print)
+    let room = make_room(out, waiting);
+    let wrote = add(out, room.wrote, print);
+    Waiting {
+        wrote,
+        failed: room.failed,
+    }
 }
 
 // Feeds all of a piece.
 fn feed_all(going: Going, cells: &mut [u8], piece: &[u8], out: &mut [u8]) -> Going
-    requires { ⌜ Ready (going .run) (now cells) × (going .wrote ≤ length (now out)) × (64 ≤ length (now out)) ⌝ }
-    ensures { λ r. ⌜ Ready (r .run) (now (cells .exit)) × (r .wrote ≤ length (now (out .entry))) ⌝ }
+    requires { ⌜ Ready (going .run) (now cells) × (going .waiting .wrote ≤ length (now out)) × (64 ≤ length (now out)) ⌝ }
+    ensures { λ r. ⌜ Ready (r .run) (now (cells .exit)) × (r .waiting .wrote ≤ length (now (out .entry))) ⌝ }
 {
     let mut run = going.run;
-    let mut wrote = going.wrote;
+    let mut waiting = going.waiting;
     let mut left = piece.len();
     while 0 < left {
         let at = piece.len() - left;
         let fed = run::feed(run, cells, &piece[at..]);
         let print = fed.print;
         run = fed.run;
-        wrote = print_line(out, wrote, print);
+        waiting = print_line(out, waiting, print);
         left -= fed.used;
     }
-    Going { run, wrote }
+    Going { run, waiting }
 }
 
-// The last line, and all that waits.
-fn end(print: Print, out: &mut [u8], wrote: usize)
-    requires { ⌜ (wrote ≤ length (now out)) × (64 ≤ length (now out)) ⌝ }
+// The last line, and all that waits; a word on standard error where a write failed.
+fn end(print: Print, out: &mut [u8], waiting: Waiting)
+    requires { ⌜ (waiting .wrote ≤ length (now out)) × (64 ≤ length (now out)) ⌝ }
 {
-    let w = print_line(out, wrote, print);
-    flush(out, w);
+    let last = print_line(out, waiting, print);
+    if flush(out, last) {
+        io::write_all(libc::STDERR_FILENO, b"replay: a write failed\n");
+    }
 }
 
-// Reads to the end, or to the first refusal. The turns are counted down from a number that no run uses up: nothing says that an input ends.
+// Reads to the end, to the first refusal, or to a write that failed. The turns are counted down from a number that no run uses up: nothing
+// says that an input ends.
 fn read_all(run: Run, cells: &mut [u8], buf: &mut [u8], out: &mut [u8], wrote: usize)
     requires { ⌜ Ready run (now cells) × (wrote ≤ length (now out)) × (64 ≤ length (now out)) ⌝ }
 {
-    let mut going = Going { run, wrote };
+    let mut going = Going {
+        run,
+        waiting: Waiting {
+            wrote,
+            failed: false,
+        },
+    };
     let mut turns = u64::MAX;
     while 0 < turns {
         turns -= 1;
         let r = going.run;
-        if r.over {
-            end(Print::Nothing, out, going.wrote);
+        let w = going.waiting;
+        if r.over | w.failed {
+            end(Print::Nothing, out, w);
             return;
         }
         let got = libc::read(libc::STDIN_FILENO, buf);
         if got < 0 {
-            end(run::fail(r), out, going.wrote);
+            end(run::fail(r), out, w);
             return;
         }
         let n = io::count(got, buf);
         if n == 0 {
-            end(run::finish(r), out, going.wrote);
+            end(run::finish(r), out, w);
             return;
         }
         going = feed_all(going, cells, &buf[..n], out);
     }
     let r = going.run;
-    end(run::fail(r), out, going.wrote);
+    let w = going.waiting;
+    end(run::fail(r), out, w);
 }
 
 // Opens at 1,024 with the mainnet defaults.

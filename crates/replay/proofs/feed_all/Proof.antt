@@ -10,11 +10,11 @@ use Rattle.replay.proofs.feed_all.Statement.{statement}
 use Rattle.replay.proofs.feed_all.Tie as tie
 
 abbrev Inv-loop : tie.InvT-loop
-Inv-loop cells₀ piece out₀ run₀ wrote₀ left₀ cells out run wrote left =
-    Ready run cells × (left ≤ length piece) × (wrote ≤ length out) × (64 ≤ length out) × (length out ≡ length out₀) × (length cells ≡ length cells₀)
+Inv-loop cells₀ piece out₀ run₀ waiting₀ left₀ cells out run waiting left =
+    Ready run cells × (left ≤ length piece) × (waiting .wrote ≤ length out) × (64 ≤ length out) × (length out ≡ length out₀) × (length cells ≡ length cells₀)
 
 abbrev μ-loop : tie.MeasureT-loop
-μ-loop cells₀ piece out₀ run₀ wrote₀ left₀ cells out run wrote left = left
+μ-loop cells₀ piece out₀ run₀ waiting₀ left₀ cells out run waiting left = left
 
 loop-holds : tie.Need-loop-holds Inv-loop μ-loop
 loop-holds c = search needs
@@ -41,7 +41,7 @@ sub-left : tie.Need-sub-left Inv-loop μ-loop
 sub-left c = search needs
 
 loop-less : tie.Need-loop-less Inv-loop μ-loop
-loop-less c = let i = last-inside (c .before .before .before .before .before .before .before .before .before .before .before .before .before .before .before .before .before .args .piece .now) (c .before .before .before .before .before .before .before .before .before .before .before .before .loop .left) (c .before .before .before .before .before .before .before .before .before .before .before .before .loop .inv .1) _ (c .before .before .before .before .before .before .before .before .feed .ensures .1 .1 .1) in let m = c .before .before .before .before .before .before .before .before .feed .ensures .1 .1 .0 (c .before .before .before .before .before .before .before .before .before .before .before .before .loop .inv .0) .moves (last-some (c .before .before .before .before .before .before .before .before .before .before .before .before .before .before .before .before .before .args .piece .now) (c .before .before .before .before .before .before .before .before .before .before .before .before .loop .left) (c .before .before .before .before .before .before .before .before .before .before .before .before .loop .inv .1) (c .before .before .before .before .before .before .before .before .before .before .before .loop-test .taken)) in omega (arith, i, m, c .before .before .before .before .before .before .before .before .before .before .before .loop-test .taken)
+loop-less c = let i = last-inside (c .before .before .before .before .before .before .before .before .before .before .before .before .before .before .before .before .before .before .args .piece .now) (c .before .before .before .before .before .before .before .before .before .before .before .before .loop .left) (c .before .before .before .before .before .before .before .before .before .before .before .before .loop .inv .1) _ (c .before .before .before .before .before .before .before .before .feed .ensures .1 .1 .1) in let m = c .before .before .before .before .before .before .before .before .feed .ensures .1 .1 .0 (c .before .before .before .before .before .before .before .before .before .before .before .before .loop .inv .0) .moves (last-some (c .before .before .before .before .before .before .before .before .before .before .before .before .before .before .before .before .before .before .args .piece .now) (c .before .before .before .before .before .before .before .before .before .before .before .before .loop .left) (c .before .before .before .before .before .before .before .before .before .before .before .before .loop .inv .1) (c .before .before .before .before .before .before .before .before .before .before .before .loop-test .taken)) in omega (arith, i, m, c .before .before .before .before .before .before .before .before .before .before .before .loop-test .taken)
 
 loop-again : tie.Need-loop-again Inv-loop μ-loop
 loop-again c = (c .before .before .before .before .before .before .before .before .feed .ensures .1 .1 .0 (c .before .before .before .before .before .before .before .before .before .before .before .before .loop .inv .0) .ready, search needs, search needs, search needs, search needs, search needs)

@@ -1,5 +1,6 @@
 -- `replay::read_all` meets its contract. Assumes nothing.
 use Rattle.replay.proofs.Laws.{still-below}
+use native.Mathlib.Omega.{arith}
 use mathlib.Core.Path.{_≡_, _∙_}
 use Prim.Native.Nat.{_≤_}
 use lib.ListN.{length}
@@ -10,7 +11,7 @@ use Rattle.replay.proofs.read_all.Tie as tie
 
 abbrev Inv-loop : tie.InvT-loop
 Inv-loop cells₀ buf₀ out₀ wrote going₀ turns₀ cells buf out going turns =
-    Ready (going .run) cells × (going .wrote ≤ length out) × (64 ≤ length out) × (length cells ≡ length cells₀) × (length buf ≡ length buf₀) × (length out ≡ length out₀)
+    Ready (going .run) cells × (going .waiting .wrote ≤ length out) × (64 ≤ length out) × (length cells ≡ length cells₀) × (length buf ≡ length buf₀) × (length out ≡ length out₀)
 
 abbrev μ-loop : tie.MeasureT-loop
 μ-loop cells₀ buf₀ out₀ wrote going₀ turns₀ cells buf out going turns = turns
@@ -88,10 +89,10 @@ feed-all-requires : tie.Need-feed-all-requires Inv-loop μ-loop
 feed-all-requires c κs = search needs
 
 loop-less : tie.Need-loop-less Inv-loop μ-loop
-loop-less c = search needs
+loop-less c = omega (arith, c .before .before .before .before .before .before .before .before .before .before .before .before .before .before .before .before .before .before .before .before .before .loop-test .taken)
 
 loop-again : tie.Need-loop-again Inv-loop μ-loop
-loop-again c = let i = c .before .before .before .before .before .before .before .before .before .before .before .before .before .before .before .before .before .before .before .loop .inv in (c .before .before .before .before .feed-all .ensures .0, still-below _ _ _ (c .before .out4 .given) (c .before .before .before .before .feed-all .ensures .1), still-below _ _ _ (c .before .out4 .given) (i .2), c .before .before .before .cells .given ∙ i .3, c .before .before .before .before .before .before .before .before .before .before .before .before .before .buf .given ∙ i .4, c .before .out4 .given ∙ i .5)
+loop-again c = let i = c .before .before .before .before .before .before .before .before .before .before .before .before .before .before .before .before .before .before .before .before .before .before .loop .inv in (c .before .before .before .before .feed-all .ensures .0, still-below _ _ _ (c .before .out4 .given) (c .before .before .before .before .feed-all .ensures .1), still-below _ _ _ (c .before .out4 .given) (i .2), c .before .before .before .cells .given ∙ i .3, c .before .before .before .before .before .before .before .before .before .before .before .before .before .buf .given ∙ i .4, c .before .out4 .given ∙ i .5)
 
 fail-requires-2 : tie.Need-fail-requires-2 Inv-loop μ-loop
 fail-requires-2 c κs = search needs
