@@ -11,10 +11,10 @@
 extern "C" {
 #endif
 
-#define ERGO_TABLE 60u
-#define ERGO_STATE 95u
-#define ERGO_QUESTION 81u
-#define ERGO_COMPUTED 85u
+#define ERGO_TABLE 60u    /* the bytes of a table: entries 1 to 9, 121, 122, 123. Call 0x1a gives that of a network, of one byte 0 mainnet's */
+#define ERGO_STATE 95u    /* the bytes of a replay's state */
+#define ERGO_QUESTION 81u /* the bytes of a question to ergo_boundary */
+#define ERGO_COMPUTED 85u /* the bytes of its answer */
 
 /* An entry of a tally: 8 bytes, the count at 4. */
 typedef struct {
@@ -24,7 +24,8 @@ typedef struct {
 
 /* What ergo_voting_answer says where there is no answer. */
 #define ERGO_NO_CALL ((size_t)0xfffffffe)      /* no call has this number */
-#define ERGO_WRONG_LENGTH ((size_t)0xffffffff) /* the input is not as long as the call takes */
+/* the input is not as long as the call takes, or out is shorter than the cells of a call that writes into a buffer */
+#define ERGO_WRONG_LENGTH ((size_t)0xffffffff)
 
 /* Opens a replay on mainnet's settings: a height, a table, and room for a state. 0, or the number of the refusal; 21 where the table or
    the state is shorter than above. Refused, no cell of the state changes. */

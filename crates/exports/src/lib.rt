@@ -19,7 +19,8 @@ const TABLE: usize = 60;
 const STATE: usize = 95;
 
 // The answer to a call of docs/VECTORS.md, into out, and how many bytes it has. 0xffff_fffe: no call has this number. 0xffff_ffff: the
-// input is not as long as the call takes. A number above the length of out: the answer does not fit, and out has no answer.
+// input is not as long as the call takes, or out is shorter than the cells of a call that writes into a buffer. A number above the length of
+// out: the answer does not fit, and out has no answer.
 #[no_mangle]
 pub extern "C" fn ergo_voting_answer(call: u8, input: &[u8], out: &mut [u8]) -> usize {
     if call == 0 {
