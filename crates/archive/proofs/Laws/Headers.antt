@@ -6,7 +6,7 @@ use mathlib.Core.List.{List, [], _∷_}
 use Prim.Native.Nat.{ℕ, suc, _+_, _*_, _/_, _≤_, _<_}
 use native.Mathlib.Numerals.{add-one, add-two, add-three}
 use native.Mathlib.Omega.{arith}
-use borrow.Author.Tests.{eqb-true, eqb-false, ne-eqb}
+use borrow.Author.Tests.{eqb-true, not-false}
 use lib.Dec.{eqb}
 use lib.ListN.{length, getD, drop, length-drop}
 use lib.Seq.{drop-cons}
@@ -89,11 +89,7 @@ found-right true q e = absurd (true≢false e)
 found-right false q e = e
 
 not-found : (e : ℕ) → not (eqb e 0) ≡ false → e ≡ 0
-not-found e q = eqb-true e 0 (go (eqb e 0) q)
-  where
-    go : (b : Bool) → not b ≡ false → b ≡ true
-    go true x = refl
-    go false x = absurd (true≢false x)
+not-found e q = eqb-true e 0 (not-false (eqb e 0) q)
 
 -- the header check: one header further
 module _ (s : List ℕ) (i : ℕ) (found : Bool) where
@@ -116,10 +112,6 @@ module _ (s : List ℕ) (i : ℕ) (found : Bool) where
     found-end h inv q = sym (inv q) ∙ count-end p s i h
 
 -- without a vote every header is legal
-pub none-found : (found : Bool) → not found ≡ true → found ≡ false
-none-found true q = absurd (true≢false (sym q))
-none-found false q = refl
-
 no-vote : (x n : ℕ) → cond (not (eqb x 0)) 1 0 + n ≡ 0 → x ≡ 0
 no-vote x n z = not-found x (go (eqb x 0) z)
   where
