@@ -41,3 +41,7 @@ epochLine height f = digits 10 height ++ space ++ column (f .version) ++ space +
 -- `end`, the number of epochs that were accepted, and the refusal's number or 0
 unfoldable pub endLine : ℕ → ℕ → List ℕ
 endLine accepted refusal = (101 ∷ 110 ∷ 100 ∷ []) ++ space ++ digits 10 accepted ++ space ++ digits 10 refusal ++ newline
+
+-- no line has more bytes
+abbrev pub lineMost : ℕ
+lineMost = 47

@@ -1,0 +1,5 @@
+pub mod Lines
+pub mod Put
+pub mod Stream
+pub mod Run
+pub mod Driven

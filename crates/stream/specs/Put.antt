@@ -1,0 +1,19 @@
+-- What private writers into a buffer did. Assumes nothing.
+use Prim.Native.Nat.{ℕ, _+_, _≤_}
+use mathlib.Core.Path.{_≡_}
+use mathlib.Core.List.{List, _++_}
+use lib.ListN.{length, take, drop}
+use lib.Seq.{sets}
+use Rattle.stream.specs.Lines.{lineMost}
+
+-- the text stands from a position on, and the position after it is known to be small
+pub record Put (text : List ℕ) (most at next : ℕ) (before after : List ℕ) : Type 0 where
+  pub is : after ≡ sets before at text
+  pub ends : next ≡ at + length text
+  pub small : next ≤ at + most
+
+-- the text stands behind what stood before a position, the rest is as it was, and the next position is known
+pub record Added (text : List ℕ) (at next : ℕ) (before after : List ℕ) : Type 0 where
+  pub is : after ≡ take at before ++ (text ++ drop (at + length text) before)
+  pub ends : next ≡ at + length text
+  pub small : length text ≤ lineMost
