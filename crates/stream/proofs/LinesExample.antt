@@ -4,7 +4,7 @@ use mathlib.Core.Path.{_≡_, refl}
 use mathlib.Core.List.{[], _∷_}
 use lib.IntN.{pos, negsuc}
 use Rattle.voting.specs.declared.table.Value.the-variants.{Absent, Number}
-use Rattle.archive.specs.Lines.{digits, decimal, column, epochLine, endLine}
+use Rattle.stream.specs.Lines.{digits, decimal, column, epochLine, endLine}
 
 -- `1024 1 - -`
 pub epoch-example : epochLine 1024 (record { votes = Absent; start = Absent; version = Number (pos 1) }) ≡

@@ -9,8 +9,8 @@ ghost use mathlib.Core.List.{[], _∷_};
 ghost use Prim.Native.Nat.{_+_, _≤_};
 ghost use lib.ListN.{length, take};
 ghost use Rattle.codec.specs.Output.{outcome, writes};
-ghost use Rattle.archive.specs.Put.{Put};
-ghost use Rattle.archive.specs.Lines.{digits, decimal, column, headLine, epochLine, endLine};
+ghost use Rattle.stream.specs.Put.{Put};
+ghost use Rattle.stream.specs.Lines.{digits, decimal, column, headLine, epochLine, endLine, lineMost};
 
 // Writes the first line.
 pub fn write_head(out: &mut [u8]) -> Wrote
@@ -51,7 +51,7 @@ fn hand_out(out: &mut [u8], text: &[u8], n: usize) -> Wrote
 }
 
 fn put_epoch(out: &mut [u8], height: u32, fork: Fork) -> usize
-    ensures { λ r. ⌜ Put (epochLine height fork) 47 0 r (now (out .entry)) (now (out .exit)) ⌝ }
+    ensures { λ r. ⌜ Put (epochLine height fork) lineMost 0 r (now (out .entry)) (now (out .exit)) ⌝ }
 {
     let version = fork.version;
     let start = fork.start;

@@ -22,8 +22,8 @@ use Rattle.codec.proofs.Laws.Signed.{is-neg, not-neg, flip}
 use Rattle.voting.specs.declared.table.Value.{Value}
 use Rattle.voting.specs.declared.table.Value.the-variants.{Absent, Number}
 use Rattle.voting.specs.declared.table.Fork.{Fork}
-use Rattle.archive.specs.Put.{Put}
-use Rattle.archive.specs.Lines.{digits, decimal, column, epochLine, endLine}
+use Rattle.stream.specs.Put.{Put}
+use Rattle.stream.specs.Lines.{digits, decimal, column, epochLine, endLine, lineMost}
 
 -- a text, and another after it
 pub joined : {a b : List ℕ} {m n i j k : ℕ} {d d′ d″ : List ℕ} → Put a m i j d d′ → Put b n j k d′ d″ → Put (a ++ b) (m + n) i k d d″
@@ -136,7 +136,7 @@ column-most Absent = record { is = omega arith }
 column-most (Number (pos n)) = record { is = omega (arith, digits-length 10 n) }
 column-most (Number (negsuc n)) = record { is = omega (arith, digits-length 10 (n + 1)) }
 
-pub epoch-most : (height : ℕ) (f : Fork) → length (epochLine height f) ≤ 47
+pub epoch-most : (height : ℕ) (f : Fork) → length (epochLine height f) ≤ lineMost
 unfolding epochLine
 epoch-most height f =
     let a = append-most (digits-most height) (one-most 32) in
@@ -144,7 +144,7 @@ epoch-most height f =
     let c = append-most (append-most b (column-most (f .start))) (one-most 32) in
     append-most (append-most c (column-most (f .votes))) (one-most 10) .is
 
-pub end-most : (accepted refusal : ℕ) → length (endLine accepted refusal) ≤ 47
+pub end-most : (accepted refusal : ℕ) → length (endLine accepted refusal) ≤ lineMost
 unfolding endLine
 end-most accepted refusal =
     let e : Most (101 ∷ 110 ∷ 100 ∷ []) 3 = record { is = omega arith } in

@@ -1,16 +1,16 @@
--- `archive::lines::put_digits` meets its contract. Assumes nothing.
+-- `stream::lines::put_digits` meets its contract. Assumes nothing.
 use native.Mathlib.Omega.{arith}
 use borrow.Author.Needs.{needs}
 use Prim.Native.Nat.{ℕ, _<_}
 use borrow.Fn.Kinds.{In}
 use borrow.Fn.PlainCycle.{Measures, is, falls, and}
-use Rattle.archive.proofs.Laws.Lines.{wider, same-text, nothing, joined, digits-none, digits-first, digits-more}
-use Rattle.archive.proofs.lines.put_digits.Reads as put-digits
-use Rattle.archive.proofs.lines.put_digits.Kinds as put-digits-kinds
-use Rattle.archive.proofs.lines.+put_digits.Lts-put_digits as put-digits-lts
-use Rattle.archive.proofs.lines.put.Reads as put-reads
-use Rattle.archive.proofs.lines.+put_digits.{statement}
-use Rattle.archive.proofs.lines.+put_digits.Tie.{close}
+use Rattle.stream.proofs.Laws.Lines.{wider, same-text, nothing, joined, digits-none, digits-first, digits-more}
+use Rattle.stream.proofs.lines.put_digits.Reads as put-digits
+use Rattle.stream.proofs.lines.put_digits.Kinds as put-digits-kinds
+use Rattle.stream.proofs.lines.+put_digits.Lts-put_digits as put-digits-lts
+use Rattle.stream.proofs.lines.put.Reads as put-reads
+use Rattle.stream.proofs.lines.+put_digits.{statement}
+use Rattle.stream.proofs.lines.+put_digits.Tie.{close}
 
 abbrev μ-put-digits : Measures 1 put-digits-kinds.ps ℕ
 μ-put-digits κs a = a .1 .1 .1 .0

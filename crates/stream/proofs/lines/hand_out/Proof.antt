@@ -1,8 +1,8 @@
--- `archive::lines::hand_out` meets its contract. Assumes nothing.
+-- `stream::lines::hand_out` meets its contract. Assumes nothing.
 use borrow.Author.Needs.{needs}
-use Rattle.archive.proofs.Laws.Lines.{part-length, too-short, handed}
-use Rattle.archive.proofs.lines.hand_out.Statement.{statement}
-use Rattle.archive.proofs.lines.hand_out.Tie as tie
+use Rattle.stream.proofs.Laws.Lines.{part-length, too-short, handed}
+use Rattle.stream.proofs.lines.hand_out.Statement.{statement}
+use Rattle.stream.proofs.lines.hand_out.Tie as tie
 
 returns : tie.Need-returns
 returns c = let s = c .before .before .before in too-short (s .args .text .now) (s .args .n) (s .pre) (s .args .out .now) (c .if1 .taken)

@@ -1,11 +1,11 @@
--- `archive::lines::put_column` meets its contract. Assumes nothing.
+-- `stream::lines::put_column` meets its contract. Assumes nothing.
 use native.Mathlib.Omega.{arith}
 use mir.Syntax.{w32}
 use mir.Val.{SFits}
 use borrow.Author.Needs.{needs}
-use Rattle.archive.proofs.Laws.Lines.{wider, same-text, column-absent, column-number}
-use Rattle.archive.proofs.lines.put_column.Statement.{statement}
-use Rattle.archive.proofs.lines.put_column.Tie as tie
+use Rattle.stream.proofs.Laws.Lines.{wider, same-text, column-absent, column-number}
+use Rattle.stream.proofs.lines.put_column.Statement.{statement}
+use Rattle.stream.proofs.lines.put_column.Tie as tie
 
 enum-told : tie.Need-enum-told
 enum-told c = search needs

@@ -1,11 +1,11 @@
--- `archive::lines::put_decimal` meets its contract. Assumes nothing.
+-- `stream::lines::put_decimal` meets its contract. Assumes nothing.
 use native.Mathlib.Omega.{arith}
 use mir.Syntax.{w32}
 use borrow.Author.Needs.{needs}
 use Rattle.codec.proofs.Laws.Signed.{neg-cast, pos-cast}
-use Rattle.archive.proofs.Laws.Lines.{wider, same-text, joined, decimal-neg, decimal-pos, flipped-fits}
-use Rattle.archive.proofs.lines.put_decimal.Statement.{statement}
-use Rattle.archive.proofs.lines.put_decimal.Tie as tie
+use Rattle.stream.proofs.Laws.Lines.{wider, same-text, joined, decimal-neg, decimal-pos, flipped-fits}
+use Rattle.stream.proofs.lines.put_decimal.Statement.{statement}
+use Rattle.stream.proofs.lines.put_decimal.Tie as tie
 
 put-requires : tie.Need-put-requires
 put-requires c κs = search needs

@@ -1,9 +1,9 @@
--- `archive::lines::put_end` meets its contract. Assumes nothing.
+-- `stream::lines::put_end` meets its contract. Assumes nothing.
 use borrow.Author.Needs.{needs}
-use Rattle.archive.specs.Lines.{endLine}
-use Rattle.archive.proofs.Laws.Lines.{joined}
-use Rattle.archive.proofs.lines.put_end.Statement.{statement}
-use Rattle.archive.proofs.lines.put_end.Tie as tie
+use Rattle.stream.specs.Lines.{endLine}
+use Rattle.stream.proofs.Laws.Lines.{joined}
+use Rattle.stream.proofs.lines.put_end.Statement.{statement}
+use Rattle.stream.proofs.lines.put_end.Tie as tie
 
 put-requires : tie.Need-put-requires
 put-requires c κs = search needs

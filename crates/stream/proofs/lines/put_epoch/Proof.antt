@@ -1,9 +1,9 @@
--- `archive::lines::put_epoch` meets its contract. Assumes nothing.
+-- `stream::lines::put_epoch` meets its contract. Assumes nothing.
 use borrow.Author.Needs.{needs}
-use Rattle.archive.specs.Lines.{epochLine}
-use Rattle.archive.proofs.Laws.Lines.{joined}
-use Rattle.archive.proofs.lines.put_epoch.Statement.{statement}
-use Rattle.archive.proofs.lines.put_epoch.Tie as tie
+use Rattle.stream.specs.Lines.{epochLine}
+use Rattle.stream.proofs.Laws.Lines.{joined}
+use Rattle.stream.proofs.lines.put_epoch.Statement.{statement}
+use Rattle.stream.proofs.lines.put_epoch.Tie as tie
 
 put-digits-requires : tie.Need-put-digits-requires
 put-digits-requires c κs = search needs

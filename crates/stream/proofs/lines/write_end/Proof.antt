@@ -1,12 +1,12 @@
--- `archive::lines::write_end` meets its contract. Assumes nothing.
+-- `stream::lines::write_end` meets its contract. Assumes nothing.
 use mathlib.Core.Path.{ap, _∙_}
 use mathlib.Core.List.{List}
 use Prim.Native.Nat.{ℕ}
 use borrow.Author.Needs.{needs}
 use Rattle.codec.specs.Output.{writes}
-use Rattle.archive.proofs.Laws.Lines.{read-back}
-use Rattle.archive.proofs.lines.write_end.Statement.{statement}
-use Rattle.archive.proofs.lines.write_end.Tie as tie
+use Rattle.stream.proofs.Laws.Lines.{read-back}
+use Rattle.stream.proofs.lines.write_end.Statement.{statement}
+use Rattle.stream.proofs.lines.write_end.Tie as tie
 
 slice-aggregate-put-end : tie.Need-slice-aggregate-put-end
 slice-aggregate-put-end c = search needs

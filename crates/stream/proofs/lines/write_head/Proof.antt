@@ -1,8 +1,8 @@
--- `archive::lines::write_head` meets its contract. Assumes nothing.
+-- `stream::lines::write_head` meets its contract. Assumes nothing.
 use borrow.Author.Needs.{needs}
-use Rattle.archive.specs.Lines.{headLine}
-use Rattle.archive.proofs.lines.write_head.Statement.{statement}
-use Rattle.archive.proofs.lines.write_head.Tie as tie
+use Rattle.stream.specs.Lines.{headLine}
+use Rattle.stream.proofs.lines.write_head.Statement.{statement}
+use Rattle.stream.proofs.lines.write_head.Tie as tie
 
 slice-aggregate-hand-out : tie.Need-slice-aggregate-hand-out
 slice-aggregate-hand-out c = search needs

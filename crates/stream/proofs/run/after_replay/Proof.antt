@@ -1,10 +1,10 @@
--- `archive::run::after_replay` meets its contract. Assumes nothing.
-use Rattle.archive.specs.Run.{afterReplay}
+-- `stream::run::after_replay` meets its contract. Assumes nothing.
+use Rattle.stream.specs.Run.{afterReplay}
 use Rattle.archive.specs.declared.replay.Verdict.{Verdict}
 use mathlib.Core.Path.{sym, ap, _∙_}
 use borrow.Author.Needs.{needs}
-use Rattle.archive.proofs.run.after_replay.Statement.{statement}
-use Rattle.archive.proofs.run.after_replay.Tie as tie
+use Rattle.stream.proofs.run.after_replay.Statement.{statement}
+use Rattle.stream.proofs.run.after_replay.Tie as tie
 
 enum-told : tie.Need-enum-told
 enum-told c = search needs

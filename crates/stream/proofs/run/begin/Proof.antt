@@ -1,9 +1,8 @@
--- `archive::run::begin` meets its contract. Assumes nothing.
-use Rattle.archive.proofs.Laws.Run.{begins}
+-- `stream::run::begin` meets its contract. Assumes nothing.
 use mathlib.Core.Path.{refl}
-use borrow.Author.Needs.{needs}
-use Rattle.archive.proofs.run.begin.Statement.{statement}
-use Rattle.archive.proofs.run.begin.Tie as tie
+use Rattle.stream.proofs.Laws.Driven.{begins}
+use Rattle.stream.proofs.run.begin.Statement.{statement}
+use Rattle.stream.proofs.run.begin.Tie as tie
 
 returns : tie.Need-returns
 returns c = (refl, begins _)

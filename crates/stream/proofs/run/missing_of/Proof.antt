@@ -1,8 +1,8 @@
--- `archive::run::missing_of` meets its contract. Assumes nothing.
-use Rattle.archive.proofs.Laws.Run.{missing-whole, missing-short, missing-none}
+-- `stream::run::missing_of` meets its contract. Assumes nothing.
+use Rattle.stream.proofs.Laws.Run.{missing-whole, missing-short, missing-none}
 use borrow.Author.Needs.{needs}
-use Rattle.archive.proofs.run.missing_of.Statement.{statement}
-use Rattle.archive.proofs.run.missing_of.Tie as tie
+use Rattle.stream.proofs.run.missing_of.Statement.{statement}
+use Rattle.stream.proofs.run.missing_of.Tie as tie
 
 record-of-requires : tie.Need-record-of-requires
 record-of-requires c κs = search needs

@@ -1,9 +1,9 @@
--- `archive::run::after_bytes` meets its contract. Assumes nothing.
-use Rattle.archive.proofs.Laws.Run.{bytes-whole, bytes-short, bytes-malformed}
+-- `stream::run::on_bytes` meets its contract. Assumes nothing.
+use Rattle.stream.proofs.Laws.Run.{bytes-whole, bytes-short, bytes-malformed}
 use mathlib.Core.Path.{_∙_}
 use borrow.Author.Needs.{needs}
-use Rattle.archive.proofs.run.after_bytes.Statement.{statement}
-use Rattle.archive.proofs.run.after_bytes.Tie as tie
+use Rattle.stream.proofs.run.on_bytes.Statement.{statement}
+use Rattle.stream.proofs.run.on_bytes.Tie as tie
 
 record-of-requires : tie.Need-record-of-requires
 record-of-requires c κs = search needs
@@ -33,13 +33,13 @@ returns : tie.Need-returns
 returns c = c .after-replay .ensures ∙ bytes-whole _ _ _ (c .before .before .before .before .before .before .record-of .ensures) _ _ (c .before .before .before .before .p .given .1) _ (c .before .replay .ensures .0)
 
 returns-2 : tie.Need-returns-2
-returns-2 c = c .waits .ensures ∙ bytes-short _ _ _ (c .before .before .before .record-of .ensures) _ _ (c .before .enum-told .given .1) (c .before .before .before .before .before .pre)
+returns-2 c = c .waits .ensures ∙ bytes-short _ _ _ (c .before .before .before .record-of .ensures) _ _ (c .before .enum-told .given .1)
 
 returns-3 : tie.Need-returns-3
 returns-3 c = c .ends-by .ensures ∙ bytes-malformed _ _ _ (c .before .before .before .record-of .ensures) _ (c .before .enum-told2 .given .1)
 
-pub after-bytes-spec : {M : Type 1} → statement M
-after-bytes-spec =
+pub on-bytes-spec : {M : Type 1} → statement M
+on-bytes-spec =
     tie.close
     (tie.spec
     record-of-requires

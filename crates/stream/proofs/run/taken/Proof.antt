@@ -1,8 +1,8 @@
--- `archive::run::taken` meets its contract. Assumes nothing.
-use Rattle.archive.proofs.Laws.Run.{took-short, took-long}
+-- `stream::run::taken` meets its contract. Assumes nothing.
+use Rattle.stream.proofs.Laws.Run.{took-short, took-long}
 use borrow.Author.Needs.{needs}
-use Rattle.archive.proofs.run.taken.Statement.{statement}
-use Rattle.archive.proofs.run.taken.Tie as tie
+use Rattle.stream.proofs.run.taken.Statement.{statement}
+use Rattle.stream.proofs.run.taken.Tie as tie
 
 missing-of-requires : tie.Need-missing-of-requires
 missing-of-requires c κs = search needs

@@ -1,8 +1,8 @@
--- `archive::run::Print::write` meets its contract. Assumes nothing.
-use Rattle.archive.proofs.Laws.Run.{nothing-written, epoch-written, end-written}
+-- `stream::run::Print::write` meets its contract. Assumes nothing.
+use Rattle.stream.proofs.Laws.Run.{nothing-written, epoch-written, end-written}
 use borrow.Author.Needs.{needs}
-use Rattle.archive.proofs.run.Print.write.Statement.{statement}
-use Rattle.archive.proofs.run.Print.write.Tie as tie
+use Rattle.stream.proofs.run.Print.write.Statement.{statement}
+use Rattle.stream.proofs.run.Print.write.Tie as tie
 
 enum-told : tie.Need-enum-told
 enum-told c = search needs
