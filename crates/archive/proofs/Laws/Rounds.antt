@@ -8,7 +8,7 @@ use native.Mathlib.Omega.{arith}
 use borrow.Author.Tests.{eqb-true, eqb-false, leb-true, ltb-false, le-ltb, eq-eqb}
 use lib.Dec.{ltb, leb, eqb}
 use lib.IntN.{pos}
-use lib.ListN.{length, take, drop}
+use lib.ListN.{length, take}
 use Rattle.codec.specs.Refusal.{settingLarge, votingLengthZero, recordMalformed, heightUnexpected}
 use Rattle.voting.specs.declared.settings.VotingConfig.{VotingConfig}
 use Rattle.voting.specs.declared.table.Value.the-variants.{Absent, Number}
@@ -140,12 +140,11 @@ record Met (s : Replay) (height : ℕ) (votes : List ℕ) (u : Replay) : Type 0 
 
 matched-accepts : (s : Replay) (height : ℕ) (votes : List ℕ) (t : Table) (m : Matched) (u : Replay) → Accepts (afterMatch s height votes t m) u → onward s height votes t ≡ u
 unfolding afterMatch
-matched-accepts s height votes t m u e = go (eqb (m .refusal) 0) e
+matched-accepts s height votes t m u e = go (eqb (m .refusal) 0) _ e
   where
-    go : (b : Bool) → Accepts (cond b (gate s (checkForkVotes (s .settings) t (height + 1) (drop 3 votes)) (record { verdict = Accepted; state = onward s height votes t })) (record { verdict = Mismatch (m .id); state = s })) u
-        → onward s height votes t ≡ u
-    go true x = ap (λ (r : Replayed). r .state) (gate-zero s (checkForkVotes (s .settings) t (height + 1) (drop 3 votes)) (record { verdict = Accepted; state = onward s height votes t }) u x .1)
-    go false x =
+    go : (b : Bool) (n : ℕ) → Accepts (cond b (gate s n (record { verdict = Accepted; state = onward s height votes t })) (record { verdict = Mismatch (m .id); state = s })) u → onward s height votes t ≡ u
+    go true n x = ap (λ (r : Replayed). r .state) (gate-zero s n _ u x .1)
+    go false n x =
         let v : Mismatch (m .id) ≡ Accepted = ap (λ (r : Replayed). r .verdict) x in
         absurd (let z : _≡_ {A = ℕ} 0 1 = cc in omega arith)
 
@@ -256,11 +255,11 @@ gate-keeps s (suc n) r k = refl
 
 matched-keeps : (s : Replay) (height : ℕ) (votes : List ℕ) (t : Table) (m : Matched) → Keeps s (afterMatch s height votes t m)
 unfolding afterMatch
-matched-keeps s height votes t m = go (eqb (m .refusal) 0)
+matched-keeps s height votes t m = go (eqb (m .refusal) 0) _
   where
-    go : (b : Bool) → Keeps s (cond b (gate s (checkForkVotes (s .settings) t (height + 1) (drop 3 votes)) (record { verdict = Accepted; state = onward s height votes t })) (record { verdict = Mismatch (m .id); state = s }))
-    go true = gate-keeps s (checkForkVotes (s .settings) t (height + 1) (drop 3 votes)) (record { verdict = Accepted; state = onward s height votes t }) refl
-    go false = refl
+    go : (b : Bool) (n : ℕ) → Keeps s (cond b (gate s n (record { verdict = Accepted; state = onward s height votes t })) (record { verdict = Mismatch (m .id); state = s }))
+    go true n = gate-keeps s n (record { verdict = Accepted; state = onward s height votes t }) refl
+    go false n = refl
 
 parts-keep : (s : Replay) (height : ℕ) (body votes : List ℕ) → Keeps s (onParts s height body votes)
 unfolding onParts afterBoundary
