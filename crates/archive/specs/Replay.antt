@@ -2,7 +2,7 @@
 -- Assumes nothing.
 use Prim.Native.Nat.{ℕ, zero, suc, _+_, _*_, _%_, _^_, _<_}
 use mathlib.Core.Path.{_≡_}
-use mathlib.Core.Bool.{cond, _&&_}
+use mathlib.Core.Bool.{Bool, cond, _&&_}
 use mathlib.Core.List.{List}
 use lib.Dec.{ltb, leb, eqb}
 use lib.ListN.{length, take, drop}
@@ -101,10 +101,14 @@ verdictId Accepted = 0
 verdictId (Refused n) = 0
 verdictId (Mismatch id) = id
 
--- the opening: a positive multiple of 1,024, at most 2,147,482,624; the first tally is empty. Refused: a state that expects no height
-unfoldable pub openingRefusal : ℕ → ℕ
-openingRefusal height = cond (ltb 0 height && eqb (height % 1024) 0 && leb height 2147482624) 0 heightUnexpected
+-- the heights of an opening: the positive multiples of 1,024, up to 2,147,482,624
+unfoldable pub mayOpen : ℕ → Bool
+mayOpen height = ltb 0 height && eqb (height % votingLength mainnet) 0 && leb (height + votingLength mainnet) (2 ^ 31)
 
+unfoldable pub openingRefusal : ℕ → ℕ
+openingRefusal height = cond (mayOpen height) 0 heightUnexpected
+
+-- the opening: the first tally is empty. Refused: a state that expects no height
 unfoldable pub opened : ℕ → ℕ → Table → Opened
 opened zero height t = record { refusal = 0; state = record { settings = mainnet; table = t; next = height; tally = noTally } }
 opened (suc n) height t = record { refusal = suc n; state = record { settings = mainnet; table = t; next = 2 ^ 31; tally = noTally } }

@@ -12,6 +12,7 @@ use Rattle.voting.specs.declared.table.Table.{Table}
 use Rattle.voting.specs.declared.tally.Tally.{Tally}
 use Rattle.voting.specs.Settings.{mainnet}
 use Rattle.voting.specs.Table.{forkEntries}
+use Rattle.voting.specs.Header.{softForkVote}
 use Rattle.voting.specs.Tally.{entries, firstCount}
 use Rattle.rounds.specs.Replay.{Answer, refused, accepted, run}
 use Rattle.rounds.specs.Replay as Interface
@@ -67,7 +68,7 @@ interface g =
       Record = List ℕ;
       fork = λ c. c .table .fork;
       next = λ c. c .next;
-      forkVotes = λ c. firstCount (pos 120) (entries (c .tally));
+      forkVotes = λ c. firstCount (pos softForkVote) (entries (c .tally));
       height = λ xs. recordHeight (recordAt xs (votesSize g));
       votes = λ xs. recordVotes xs (recordAt xs (votesSize g));
       step = λ c xs. answer (replayOf (full g c) xs);

@@ -9,6 +9,7 @@ ghost use Prim.Native.Nat.{_+_, _/_, _≤_};
 ghost use lib.Dec.{eqb};
 ghost use lib.ListN.{length};
 ghost use Rattle.voting.specs.Common.{count};
+ghost use Rattle.voting.specs.Header.{softForkVote};
 ghost use Rattle.archive.specs.Headers.{checkHeaders, checkForkVotes};
 
 // The header check of every header in order: 9, 10 or 11 of the first that is not legal, or 0. One or two bytes left over are no header.
@@ -88,7 +89,7 @@ pub(crate) fn check_fork_votes(config: VotingConfig, table: Table, height: u32, 
 
 // Whether a byte is the vote for the fork.
 fn any_fork_vote(votes: &[u8]) -> bool
-    ensures { λ r. ⌜ (r ≡ false → count (eqb 120) (now (votes .entry)) ≡ 0) ⌝ }
+    ensures { λ r. ⌜ (r ≡ false → count (eqb softForkVote) (now (votes .entry)) ≡ 0) ⌝ }
 {
     let mut found = false;
     let mut i: usize = 0;

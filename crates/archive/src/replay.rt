@@ -10,32 +10,23 @@ use extension::parameters;
 use extension::parameters::Matched;
 use voting::fork;
 use voting::header;
+use voting::settings::MAINNET_VOTING_LENGTH;
 use voting::settings::VotingConfig;
 use voting::table::Table;
 use voting::tally;
 use voting::tally::Tally;
 ghost use mathlib.Core.Path.{_≡_};
-ghost use mathlib.Core.Bool.{_&&_};
-ghost use Prim.Native.Nat.{_+_, _*_, _/_, _%_, _≤_};
-ghost use lib.Dec.{ltb, leb, eqb};
+ghost use Prim.Native.Nat.{_+_, _*_, _/_, _≤_};
 ghost use lib.ListN.{length, take, drop};
 ghost use Rattle.voting.specs.Settings.{votingLength, mainnet};
 ghost use Rattle.voting.specs.Tally.{noTally};
 ghost use Rattle.rounds.specs.Epochs.{boundaryVotes};
 ghost use Rattle.archive.specs.Headers.{checkForkVotes};
-ghost use Rattle.archive.specs.Replay.{refuses, onward, afterMatch, afterBoundary, heightRefusal, earlyRefusal, onParts, replayOf, Exhausted, verdictNumber, verdictId, openOf};
+ghost use Rattle.archive.specs.Replay.{refuses, onward, afterMatch, afterBoundary, heightRefusal, earlyRefusal, onParts, replayOf, Exhausted, verdictNumber, verdictId, mayOpen, openOf};
 ghost use Rattle.archive.specs.Rounds.{RoundsKept};
-
-// The vote for the fork.
-const FORK_VOTE: u8 = 120;
 
 // No epoch reaches this height.
 const HEIGHT_LIMIT: u32 = 0x8000_0000;
-
-// The first height of an opening, and the last.
-const OPENING_LENGTH: u32 = 1024;
-
-const OPENING_MOST: u32 = 2147482624;
 
 // Settings, table, the height that is expected next, and the tally of the epoch before.
 pub struct Replay {
@@ -129,10 +120,12 @@ impl Verdict {
     }
 }
 
+// A positive multiple of mainnet's voting length, whose epoch ends at the limit or before.
 fn may_open(height: u32) -> bool
-    ensures { λ r. ⌜ r ≡ (ltb 0 height && eqb (height % 1024) 0 && leb height 2147482624) ⌝ }
+    ensures { λ r. ⌜ r ≡ mayOpen height ⌝ }
 {
-    (0 < height) & (height % OPENING_LENGTH == 0) & (height <= OPENING_MOST)
+    let end = (height as u64) + (MAINNET_VOTING_LENGTH as u64);
+    (0 < height) & (height % MAINNET_VOTING_LENGTH == 0) & (end <= HEIGHT_LIMIT as u64)
 }
 
 fn start(next: u32, table: Table) -> Replay
@@ -224,7 +217,7 @@ fn boundary_votes(votes: &[u8]) -> bool
     if votes.len() < 3 {
         return false;
     }
-    header::votes_for(FORK_VOTE, [votes[0], votes[1], votes[2]])
+    header::votes_for(header::SOFT_FORK_VOTE, [votes[0], votes[1], votes[2]])
 }
 
 // The fork checks of the headers after the first.

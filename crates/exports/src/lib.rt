@@ -3,6 +3,7 @@
 use archive::replay;
 use archive::replay::Replay;
 use archive_answers::replay_calls;
+use codec::refusal;
 use rows::values;
 ghost use Rattle.exports.specs.Kept.{Kept};
 
@@ -10,8 +11,6 @@ pub mod boundary;
 
 // No call has this number.
 const NO_CALL: usize = 0xffff_fffe;
-
-const OUTPUT_TOO_SHORT: u8 = 21;
 
 // How many bytes a table and a state have.
 const TABLE: usize = 60;
@@ -45,7 +44,7 @@ fn put_state(state: &mut [u8], x: Replay) -> u8
     ensures { λ r. ⌜ Kept r (now (state .entry)) (now (state .exit)) ⌝ }
 {
     if state.len() < STATE {
-        return OUTPUT_TOO_SHORT;
+        return refusal::OUTPUT_SHORT;
     }
     replay_calls::put_state(state, 0, x);
     0
@@ -58,7 +57,7 @@ pub extern "C" fn ergo_open(height: u32, table: &[u8], state: &mut [u8]) -> u8
     ensures { λ r. ⌜ Kept r (now (state .entry)) (now (state .exit)) ⌝ }
 {
     if table.len() < TABLE {
-        return OUTPUT_TOO_SHORT;
+        return refusal::OUTPUT_SHORT;
     }
     let x = replay::open(height, values::table_at(table, 0));
     let opened = x.state;
@@ -76,7 +75,7 @@ pub extern "C" fn ergo_replay(state: &mut [u8], record: &[u8], id: &mut u8) -> u
 {
     *id = 0;
     if state.len() < STATE {
-        return OUTPUT_TOO_SHORT;
+        return refusal::OUTPUT_SHORT;
     }
     let before = replay_calls::state_in(state);
     let x = before.replay(record);

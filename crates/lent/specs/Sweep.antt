@@ -13,6 +13,7 @@ use Rattle.voting.specs.declared.fork.Forked.{Forked}
 use Rattle.voting.specs.declared.boundary.Boundary.{Boundary}
 use Rattle.voting.specs.Common.{eqZ}
 use Rattle.voting.specs.Table.{withFork}
+use Rattle.voting.specs.Header.{softForkVote}
 use Rattle.voting.specs.ForkPart.{noRound, roundAt, forkAfter}
 use Rattle.voting.specs.Ordinary.{onward, voted}
 use Rattle.voting.specs.Boundary.{gate, withSubblocks}
@@ -41,8 +42,8 @@ sweptOf s id count =
       at = s .at;
       parsed = s .parsed;
       disables = s .disables;
-      found = cond (eqZ id (pos 120)) true (s .found);
-      votes = cond (eqZ id (pos 120) && not (s .found)) count (s .votes);
+      found = cond (eqZ id (pos softForkVote)) true (s .found);
+      votes = cond (eqZ id (pos softForkVote) && not (s .found)) count (s .votes);
       voted = onward (s .voted) (voted (s .at .config) (s .at .table) (record { id = id; count = count }));
     }
 

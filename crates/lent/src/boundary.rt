@@ -9,6 +9,7 @@ use voting::fork;
 use voting::fork::Forked;
 use voting::fork::Round;
 use voting::fork::RoundAt;
+use voting::header::SOFT_FORK_ID;
 use voting::ordinary;
 use voting::ordinary::Voted;
 use voting::settings::VotingConfig;
@@ -82,7 +83,7 @@ fn swept(s: Sweep, id: i8, count: u32) -> Sweep
 {
     let at = s.at;
     let parsed = s.parsed;
-    let fork = id == 120;
+    let fork = id == SOFT_FORK_ID;
     let voted = swept_votes(s, id, count);
     Sweep {
         at,

@@ -9,7 +9,7 @@ use lib.IntN.{ℤ, pos}
 use lib.ListN.{length}
 use Rattle.codec.specs.Signed.{signedOf}
 use Rattle.voting.specs.Common.{count}
-use Rattle.voting.specs.Header.{votesFor, AllLegal}
+use Rattle.voting.specs.Header.{softForkVote, votesFor, AllLegal}
 use Rattle.voting.specs.Tally.{headers, whole, seeded, entries, firstCount}
 use Rattle.voting.proofs.Laws.Header.{alike-small}
 use Rattle.voting.proofs.Laws.Tally.{tally-count, tally-none, whole-threes, headers-length, count-most}
@@ -17,27 +17,27 @@ use Rattle.rounds.specs.Epochs.{firstVotes, boundaryVotes, counted}
 use Rattle.voting.proofs.Laws.Tests.{by-test}
 
 -- 120 is its own id
-id-120 : signedOf 8 120 ≡ pos 120
+fork-id : signedOf 8 softForkVote ≡ pos softForkVote
 unfolding signedOf
-id-120 = refl
+fork-id = refl
 
-whole-brought : (bytes : List ℕ) → AllLegal (headers bytes) → firstCount (signedOf 8 120) (entries (seeded (whole bytes))) ≡ counted bytes
+whole-brought : (bytes : List ℕ) → AllLegal (headers bytes) → firstCount (signedOf 8 softForkVote) (entries (seeded (whole bytes))) ≡ counted bytes
 unfolding counted boundaryVotes firstVotes
 whole-brought bytes legal = go (headers bytes) refl legal
   where
-    go : (hs : List (List ℕ)) → headers bytes ≡ hs → AllLegal hs → firstCount (signedOf 8 120) (entries (seeded (whole bytes))) ≡ cond (firstVotes (headers bytes)) (count (votesFor 120) (headers bytes)) 0
-    go [] e legal = tally-none 120 bytes e ∙ ap (λ (hs : List (List ℕ)). cond (firstVotes hs) (count (votesFor 120) hs) 0) (sym e)
-    go (h ∷ hs) e legal = tally-count 120 (λ q. omega arith) h hs bytes e (alike-small 120 (omega arith) bytes) legal ∙ ap (λ (hs : List (List ℕ)). cond (firstVotes hs) (count (votesFor 120) hs) 0) (sym e)
+    go : (hs : List (List ℕ)) → headers bytes ≡ hs → AllLegal hs → firstCount (signedOf 8 softForkVote) (entries (seeded (whole bytes))) ≡ cond (firstVotes (headers bytes)) (count (votesFor softForkVote) (headers bytes)) 0
+    go [] e legal = tally-none softForkVote bytes e ∙ ap (λ (hs : List (List ℕ)). cond (firstVotes hs) (count (votesFor softForkVote) hs) 0) (sym e)
+    go (h ∷ hs) e legal = tally-count softForkVote (λ q. omega arith) h hs bytes e (alike-small softForkVote (omega arith) bytes) legal ∙ ap (λ (hs : List (List ℕ)). cond (firstVotes hs) (count (votesFor softForkVote) hs) 0) (sym e)
 
-pub brought : (bytes : List ℕ) (n : ℕ) → length bytes ≡ 3 * n → AllLegal (headers bytes) → firstCount (pos 120) (entries (seeded bytes)) ≡ counted bytes
+pub brought : (bytes : List ℕ) (n : ℕ) → length bytes ≡ 3 * n → AllLegal (headers bytes) → firstCount (pos softForkVote) (entries (seeded bytes)) ≡ counted bytes
 brought bytes n l legal =
-    ap (λ (xs : List ℕ). firstCount (pos 120) (entries (seeded xs))) (sym (whole-threes bytes n l))
-    ∙ ap (λ (z : ℤ). firstCount z (entries (seeded (whole bytes)))) (sym id-120)
+    ap (λ (xs : List ℕ). firstCount (pos softForkVote) (entries (seeded xs))) (sym (whole-threes bytes n l))
+    ∙ ap (λ (z : ℤ). firstCount z (entries (seeded (whole bytes)))) (sym fork-id)
     ∙ whole-brought bytes legal
 
 pub counted-most : (bytes : List ℕ) (n : ℕ) → length bytes ≡ 3 * n → counted bytes ≤ n
 unfolding counted
 counted-most bytes n l =
     by-test (boundaryVotes bytes)
-    (λ e. simp e (omega (arith, count-most (votesFor 120) (headers bytes), headers-length bytes)))
+    (λ e. simp e (omega (arith, count-most (votesFor softForkVote) (headers bytes), headers-length bytes)))
     (λ e. simp e (omega arith))

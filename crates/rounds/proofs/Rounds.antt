@@ -15,7 +15,7 @@ use Rattle.voting.specs.declared.fork.ForkVote.the-variants.{Allowed}
 use Rattle.voting.specs.Settings.{votingLength, voteEpochs, activationEpochs, forkLimit}
 use Rattle.voting.specs.ForkCheck.{checkRound}
 use Rattle.voting.specs.Tally.{headers, seeded, entries, firstCount}
-use Rattle.voting.specs.Header.{AllLegal}
+use Rattle.voting.specs.Header.{softForkVote, AllLegal}
 use Rattle.rounds.specs.Epochs.{boundaryVotes, counted, forcedVersion}
 use Rattle.rounds.specs.Book.{Round, idle, since, Book, bookAdd, bookRise, bookClose, bookOpen, bookTake, bookStep, bookRun}
 use Rattle.rounds.specs.Replay.{Answer, refused, accepted, Replay, after, call, run, calls, Lawful}
@@ -89,7 +89,7 @@ take : (g : VotingConfig) → Sound g → (f f′ : Fork) (next : ℕ) (c : ℕ)
     → Inv g f next c r v before → next + votingLength g ≤ 2 ^ 31 → length xs ≡ 3 * votingLength g → AllLegal (headers xs)
     → (boundaryVotes xs ≡ true → checkRound g next (f .start) (f .votes) ≡ Allowed)
     → f′ ≡ forkPart g next (boundaryVotes xs) c f
-    → Inv g f′ (next + votingLength g) (firstCount (pos 120) (entries (seeded xs))) (round′ g next (boundaryVotes xs) (counted before) r)
+    → Inv g f′ (next + votingLength g) (firstCount (pos softForkVote) (entries (seeded xs))) (round′ g next (boundaryVotes xs) (counted before) r)
     (version′ g next (counted before) r v) xs
 take g sound f f′ next c r v before xs i top long legal check e =
     let t : Taken g xs (counted before) r v next =

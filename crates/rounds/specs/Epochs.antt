@@ -7,13 +7,13 @@ use lib.Dec.{eqb}
 use Rattle.voting.specs.declared.settings.VotingConfig.{VotingConfig}
 use Rattle.voting.specs.Common.{count}
 use Rattle.voting.specs.Settings.{version2Height}
-use Rattle.voting.specs.Header.{votesFor}
+use Rattle.voting.specs.Header.{softForkVote, votesFor}
 use Rattle.voting.specs.Tally.{headers}
 
 -- the first of these headers votes 120
 unfoldable pub firstVotes : List (List ℕ) → Bool
 firstVotes [] = false
-firstVotes (h ∷ hs) = votesFor 120 h
+firstVotes (h ∷ hs) = votesFor softForkVote h
 
 -- the boundary header of an epoch, by its vote bytes, votes 120
 unfoldable pub boundaryVotes : List ℕ → Bool
@@ -21,7 +21,7 @@ boundaryVotes bytes = firstVotes (headers bytes)
 
 -- the headers voting 120 in an epoch whose boundary header votes 120, else nothing
 unfoldable pub counted : List ℕ → ℕ
-counted bytes = cond (boundaryVotes bytes) (count (votesFor 120) (headers bytes)) 0
+counted bytes = cond (boundaryVotes bytes) (count (votesFor softForkVote) (headers bytes)) 0
 
 -- at the version-2 height a version 1 becomes 2
 unfoldable pub forcedVersion : VotingConfig → ℕ → ℕ → ℕ

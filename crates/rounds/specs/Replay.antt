@@ -13,7 +13,7 @@ use Rattle.voting.specs.Settings.{votingLength}
 use Rattle.voting.specs.Tally.{headers, seeded, entries, firstCount}
 use Rattle.voting.specs.ForkCheck.{checkRound}
 use Rattle.voting.specs.ForkPart.{roundAt, forkAfter}
-use Rattle.voting.specs.Header.{AllLegal}
+use Rattle.voting.specs.Header.{softForkVote, AllLegal}
 use Rattle.rounds.specs.Epochs.{boundaryVotes}
 use Rattle.rounds.specs.Book.{Call, turnedDown, taken}
 
@@ -73,7 +73,7 @@ pub record Accepted (g : VotingConfig) (m : Replay) (s : m .State) (r : m .Recor
   pub check : boundaryVotes (m .votes r) ≡ true → checkRound g (m .height r) (m .fork s .start) (m .fork s .votes) ≡ Allowed
   pub part : m .fork t ≡ forkAfter g (m .height r) (roundAt g (m .height r) (boundaryVotes (m .votes r)) (m .forkVotes s) (m .fork s) .round) (m .fork s) .fork
   pub next : m .next t ≡ m .height r + votingLength g
-  pub brings : m .forkVotes t ≡ firstCount (pos 120) (entries (seeded (m .votes r)))
+  pub brings : m .forkVotes t ≡ firstCount (pos softForkVote) (entries (seeded (m .votes r)))
 
 abbrev pub Lawful : VotingConfig → Replay → Type 0
 Lawful g m = (s : m .State) (r : m .Record) (t : m .State) → m .step s r ≡ accepted t → Accepted g m s r t

@@ -16,6 +16,7 @@ use Rattle.voting.specs.declared.ordinary.Voted.{Voted}
 use Rattle.voting.specs.declared.boundary.Boundary.{Boundary}
 use Rattle.voting.specs.Common.{eqZ}
 use Rattle.voting.specs.Table.{lookup, update, withFork}
+use Rattle.voting.specs.Header.{softForkVote}
 use Rattle.voting.specs.Tally.{firstCount}
 use Rattle.voting.specs.ForkPart.{noRound, roundAt, forkAfter}
 use Rattle.voting.specs.Ordinary.{ordinaryVotes}
@@ -61,4 +62,4 @@ afterRound g height t tally disables r =
 -- disables rule 409
 unfoldable pub boundaryOf : VotingConfig → ℕ → Table → List Entry → Bool → Bool → Boundary
 boundaryOf g height t tally vote disables =
-    afterRound g height t tally disables (roundAt g height vote (firstCount (pos 120) tally) (t .fork))
+    afterRound g height t tally disables (roundAt g height vote (firstCount (pos softForkVote) tally) (t .fork))

@@ -14,7 +14,7 @@ use Rattle.voting.specs.declared.fork.ForkVote.{ForkVote}
 use Rattle.voting.specs.declared.fork.ForkVote.the-variants.{Allowed, Barred, Refused}
 use Rattle.voting.specs.Settings.{votingLength, voteEpochs, activationEpochs, softForkApproved, settingsLarge}
 use Rattle.voting.specs.Table.{lookup}
-use Rattle.voting.specs.Header.{votesFor}
+use Rattle.voting.specs.Header.{softForkVote, votesFor}
 
 -- S + L×k, the boundary k epochs after S
 unfoldable pub epochsAfter : VotingConfig → ℤ → ℕ → ℤ
@@ -39,7 +39,7 @@ checkRound g height (Number start) (Number votes) = cond (barred g height start 
 unfoldable pub checkForkVote : VotingConfig → ℕ → List ℕ → Table → ForkVote
 checkForkVote g height votes t =
     cond (settingsLarge g) (Refused settingLarge)
-    (cond (votesFor 120 votes) (checkRound g height (lookup t 122) (lookup t 121)) Allowed)
+    (cond (votesFor softForkVote votes) (checkRound g height (lookup t 122) (lookup t 121)) Allowed)
 
 -- the number that turns a header down: a vote that is barred is 12
 unfoldable pub forkRefusal : ForkVote → ℕ

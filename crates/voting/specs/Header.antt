@@ -19,9 +19,13 @@ votesIn (b ∷ bs) = cond (eqb b 0) (votesIn bs) (signedOf 8 b ∷ votesIn bs)
 unfoldable pub negation : ℤ → ℤ
 negation v = wrapped 8 (negℤ v)
 
+-- the vote for the fork, as a byte and as an id
+abbrev pub softForkVote : ℕ
+softForkVote = 120
+
 -- an ordinary vote: not for the fork
 unfoldable pub ordinaryVote : ℤ → Bool
-ordinaryVote v = not (eqZ v (pos 120))
+ordinaryVote v = not (eqZ v (pos softForkVote))
 
 -- what is wrong with the vote v among all votes: it is repeated (10), or its negation is there (11)
 unfoldable pub fault : List ℤ → ℤ → ℕ

@@ -16,6 +16,7 @@ use Rattle.voting.specs.declared.tally.Entry.{Entry}
 use Rattle.voting.specs.declared.ordinary.Voted.{Voted}
 use Rattle.voting.specs.Settings.{changeApproved}
 use Rattle.voting.specs.Table.{lookup, update}
+use Rattle.voting.specs.Header.{softForkVote}
 
 -- The least and the greatest value and the fixed step of the parameters 1 to 9; the step 0 marks those that are computed.
 abbrev pub least : List ℤ
@@ -75,7 +76,7 @@ onward v k = cond (eqb (v .refusal) 0) (k (v .table)) v
 
 -- an entry that counts here: its id is below 120 and its count is approved
 unfoldable pub counts : VotingConfig → Entry → Bool
-counts g e = ltZ (e .id) (pos 120) && changeApproved g (e .count)
+counts g e = ltZ (e .id) (pos softForkVote) && changeApproved g (e .count)
 
 -- the parameter's old value, moved; 14 where it is absent
 unfoldable pub writes : ℤ → Table → Value → Voted

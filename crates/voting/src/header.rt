@@ -5,13 +5,15 @@ ghost use mathlib.Core.List.{[], _∷_};
 ghost use Prim.Native.Nat.{_≤_};
 ghost use lib.Dec.{eqb};
 ghost use Rattle.voting.specs.Common.{count, first};
-ghost use Rattle.voting.specs.Header.{votesIn, negation, fault, checkHeaderVotes, votesFor};
+ghost use Rattle.voting.specs.Header.{softForkVote, votesIn, negation, fault, checkHeaderVotes, votesFor};
 ghost use Rattle.codec.specs.Signed.{bitsOf, signedOf};
 use codec::refusal;
 use codec::signed;
 
-// The vote for the fork.
+// The vote for the fork, as a byte and as an id.
 pub const SOFT_FORK_VOTE: u8 = 120;
+
+pub const SOFT_FORK_ID: i8 = SOFT_FORK_VOTE as i8;
 
 // How many ordinary votes a header may have.
 pub const PARAM_VOTES_COUNT: u8 = 2;
@@ -31,7 +33,7 @@ fn times(v: u8, a: u8, b: u8, c: u8) -> u8
 
 // How many of three bytes are ordinary votes.
 fn ordinary(a: u8, b: u8, c: u8) -> u8
-    ensures { λ r. ⌜ r ≡ count (λ x. not (eqb x 0) && not (eqb x 120)) (a ∷ b ∷ c ∷ []) ⌝ }
+    ensures { λ r. ⌜ r ≡ count (λ x. not (eqb x 0) && not (eqb x softForkVote)) (a ∷ b ∷ c ∷ []) ⌝ }
 {
     one((a != 0) & (a != SOFT_FORK_VOTE))
         + one((b != 0) & (b != SOFT_FORK_VOTE))

@@ -5,6 +5,7 @@ ghost use lib.IntN.{natAbs};
 ghost use Rattle.voting.specs.Tally.{entry, entries};
 ghost use mathlib.Core.List.{[]};
 ghost use Rattle.voting.specs.Ordinary.{leastOf, greatestOf, fixedStepOf, hundredth, stepSize, raised, lowered, moved, known, counts, voted, ordinaryVotes, parameterMin, parameterMax, parameterStep};
+use crate::header::SOFT_FORK_ID;
 use crate::settings::VotingConfig;
 use crate::table::Table;
 use crate::table::Value;
@@ -123,7 +124,7 @@ fn counted(config: VotingConfig, e: Entry) -> bool
     ensures { λ r. ⌜ r ≡ counts config e ⌝ }
 {
     let approved = config.change_approved(e.count);
-    (e.id < 120) & approved
+    (e.id < SOFT_FORK_ID) & approved
 }
 
 // One entry of a tally: `from` is the table after the fork part, `new` the table so far. 13, 14, or the table.

@@ -2,6 +2,9 @@
 ghost use mathlib.Core.Path.{_≡_};
 ghost use Rattle.voting.specs.Settings.{mainnet, testnet, forkLimit, softForkApproved, changeApproved, settingsLarge};
 
+// The voting length of mainnet.
+pub const MAINNET_VOTING_LENGTH: u32 = 1024;
+
 pub enum Network {
     Mainnet,
     Testnet,
@@ -20,7 +23,7 @@ impl VotingConfig {
         ensures { λ r. ⌜ r ≡ mainnet ⌝ }
     {
         VotingConfig {
-            voting_length: 1024,
+            voting_length: MAINNET_VOTING_LENGTH,
             soft_fork_epochs: 32,
             activation_epochs: 32,
             version2_activation_height: 417792,

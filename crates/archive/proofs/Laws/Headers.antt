@@ -14,7 +14,7 @@ use Rattle.voting.specs.declared.settings.VotingConfig.{VotingConfig}
 use Rattle.voting.specs.declared.table.Table.{Table}
 use Rattle.voting.specs.Common.{count, first}
 use Rattle.voting.specs.Settings.{settingsLarge}
-use Rattle.voting.specs.Header.{votesIn, faultIn, checkVotes, checkHeaderVotes, votesFor}
+use Rattle.voting.specs.Header.{softForkVote, votesIn, faultIn, checkVotes, checkHeaderVotes, votesFor}
 use Rattle.voting.specs.Tally.{headers}
 use Rattle.voting.specs.ForkCheck.{checkForkVote, forkRefusal, votesOpen}
 use Rattle.voting.proofs.Laws.Header.{first-pass, first-stop}
@@ -135,11 +135,11 @@ quiet-headers (a ∷ b ∷ c ∷ votes) z =
     rw (a₀, b₀, c₀, none-legal) (quiet-headers votes (omega (arith, z)))
 
 -- without a vote for the fork every header is allowed
-quiet-header : (g : VotingConfig) (height : ℕ) (h : List ℕ) (t : Table) → settingsLarge g ≡ false → count (eqb 120) h ≡ 0 → forkRefusal (checkForkVote g height h t) ≡ 0
+quiet-header : (g : VotingConfig) (height : ℕ) (h : List ℕ) (t : Table) → settingsLarge g ≡ false → count (eqb softForkVote) h ≡ 0 → forkRefusal (checkForkVote g height h t) ≡ 0
 unfolding checkForkVote forkRefusal votesFor
 quiet-header g height h t l z = rw (l, z)
 
-pub quiet-forks : (g : VotingConfig) (t : Table) → settingsLarge g ≡ false → (votes : List ℕ) (height : ℕ) → count (eqb 120) votes ≡ 0 → 0 ≡ forkRefusals g t height (headers votes)
+pub quiet-forks : (g : VotingConfig) (t : Table) → settingsLarge g ≡ false → (votes : List ℕ) (height : ℕ) → count (eqb softForkVote) votes ≡ 0 → 0 ≡ forkRefusals g t height (headers votes)
 unfolding forkRefusals headers count first
 quiet-forks g t l [] height z = refl
 quiet-forks g t l (a ∷ []) height z = refl

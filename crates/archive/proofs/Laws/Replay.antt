@@ -14,7 +14,7 @@ use Rattle.voting.specs.declared.settings.VotingConfig.{VotingConfig}
 use Rattle.voting.specs.declared.table.Table.{Table}
 use Rattle.voting.specs.Common.{first}
 use Rattle.voting.specs.Settings.{votingLength, mainnet}
-use Rattle.voting.specs.Header.{votesFor}
+use Rattle.voting.specs.Header.{softForkVote, votesFor}
 use Rattle.voting.specs.Tally.{headers, noTally, entries, tallyVotesSeeded}
 use Rattle.voting.specs.ForkCheck.{checkForkVote, forkRefusal}
 use Rattle.voting.specs.declared.tally.Tallied.{Tallied}
@@ -37,7 +37,7 @@ use Rattle.archive.specs.declared.replay.Verdict.the-variants.{Accepted,
 use Rattle.archive.specs.declared.replay.Replayed.{Replayed}
 use Rattle.archive.specs.Record.{recordAt}
 use Rattle.archive.specs.Headers.{checkHeaders, forkRefusals, checkForkVotes}
-use Rattle.archive.specs.Replay.{refuses, gate, onward, afterMatch, afterBoundary, heightRefusal, earlyRefusal, onParts, onRecord, votesSize, replayOf, Exhausted, openingRefusal, opened, openOf}
+use Rattle.archive.specs.Replay.{refuses, gate, onward, afterMatch, afterBoundary, heightRefusal, earlyRefusal, onParts, onRecord, votesSize, replayOf, Exhausted, mayOpen, openingRefusal, opened, openOf}
 use Rattle.archive.specs.Rounds.{RoundsKept}
 use Rattle.archive.proofs.Laws.Rounds.{kept}
 
@@ -100,7 +100,7 @@ votes-few (a ∷ []) h = refl
 votes-few (a ∷ b ∷ []) h = refl
 votes-few (a ∷ b ∷ c ∷ votes) h = absurd (omega arith)
 
-pub votes-one : (votes : List ℕ) → 3 ≤ length votes → (v : Bool) → v ≡ votesFor 120 (getD votes 0 0 ∷ getD votes 1 0 ∷ getD votes 2 0 ∷ []) → v ≡ boundaryVotes votes
+pub votes-one : (votes : List ℕ) → 3 ≤ length votes → (v : Bool) → v ≡ votesFor softForkVote (getD votes 0 0 ∷ getD votes 1 0 ∷ getD votes 2 0 ∷ []) → v ≡ boundaryVotes votes
 unfolding boundaryVotes firstVotes headers
 votes-one [] h v q = absurd (omega arith)
 votes-one (a ∷ []) h v q = absurd (omega arith)
@@ -231,7 +231,7 @@ exhausted s xs r e =
     (e, λ l p q w. e ∙ sym (record-whole s xs (recordAt xs (votesSize (s .settings))) refl p q w) ∙ sym (gate-stop s heightUnexpected (heightRefusal s (p .height)) _ (sym (no-epoch s (p .height) l)) (λ z. omega arith)))
 
 -- the opening
-module _ (height : ℕ) (t : Table) (b : Bool) (is-b : b ≡ (ltb 0 height && eqb (height % 1024) 0 && leb height 2147482624)) where
+module _ (height : ℕ) (t : Table) (b : Bool) (is-b : b ≡ mayOpen height) where
   pub open-refused : b ≡ false → (s : Replay) → s ≡ record { settings = mainnet; table = t; next = 2147483648; tally = noTally }
       → (record { refusal = heightUnexpected; state = s } ≡ openOf height t) × RoundsKept t (record { refusal = heightUnexpected; state = s })
   unfolding openOf openingRefusal opened
@@ -239,11 +239,11 @@ module _ (height : ℕ) (t : Table) (b : Bool) (is-b : b ≡ (ltb 0 height && eq
 
   pub open-opens : b ≡ true → (s : Replay) → s ≡ record { settings = mainnet; table = t; next = height; tally = noTally }
       → (record { refusal = 0; state = s } ≡ openOf height t) × RoundsKept t (record { refusal = 0; state = s })
-  unfolding openOf openingRefusal opened
+  unfolding openOf openingRefusal opened mayOpen
   open-opens f s q =
-      let a = both (ltb 0 height && eqb (height % 1024) 0) (leb height 2147482624) (sym is-b ∙ f) in
-      let m = eqb-true (height % 1024) 0 (both (ltb 0 height) (eqb (height % 1024) 0) (a .0) .1) in (
+      let a = both (ltb 0 height && eqb (height % votingLength mainnet) 0) _ (sym is-b ∙ f) in
+      let m = eqb-true (height % votingLength mainnet) 0 (both (ltb 0 height) _ (a .0) .1) in (
         rw (← is-b, f, q),
         λ v l w k z calls.
-            kept s v (ap (λ (x : Replay). x .settings) q) (ap (λ (x : Replay). x .next % 1024) q ∙ m) (ap (λ (x : Replay). x .tally) q) w (ap (λ (x : Replay). x .table .fork) q ∙ k) calls,
+            kept s v (ap (λ (x : Replay). x .settings) q) (ap (λ (x : Replay). x .next % votingLength mainnet) q ∙ m) (ap (λ (x : Replay). x .tally) q) w (ap (λ (x : Replay). x .table .fork) q ∙ k) calls,
       )

@@ -8,7 +8,7 @@ use native.Mathlib.Omega.{arith}
 use borrow.Author.Tests.{eqb-true, eqb-false, leb-true, ltb-false, le-ltb, eq-eqb}
 use lib.Dec.{ltb, leb, eqb}
 use lib.IntN.{pos}
-use lib.ListN.{length, take, drop}
+use lib.ListN.{length, take}
 use Rattle.codec.specs.Refusal.{settingLarge, votingLengthZero, recordMalformed, heightUnexpected}
 use Rattle.voting.specs.declared.settings.VotingConfig.{VotingConfig}
 use Rattle.voting.specs.declared.table.Value.the-variants.{Absent, Number}
@@ -20,7 +20,7 @@ use Rattle.voting.specs.declared.fork.ForkVote.the-variants.{Allowed, Refused a
 use Rattle.voting.specs.Common.{eqZ}
 use Rattle.voting.specs.Settings.{votingLength, voteEpochs, activationEpochs, mainnet, settingsLarge}
 use Rattle.voting.specs.Table.{lookup, forkEntries}
-use Rattle.voting.specs.Header.{checkHeaderVotes, votesFor, AllLegal}
+use Rattle.voting.specs.Header.{softForkVote, checkHeaderVotes, votesFor, AllLegal}
 use Rattle.voting.specs.Tally.{headers, noTally, seeded, seeds, tallyVotesSeeded, entry, entries, firstCount}
 use Rattle.voting.specs.ForkCheck.{checkRound, checkForkVote, forkRefusal}
 use Rattle.voting.specs.ForkPart.{noRound, roundRefused, roundFrom, roundAt, forkAfter}
@@ -70,10 +70,10 @@ unfolding headersRefusal
 legal [] e = tt
 legal (h ∷ hs) e = let q = first-zero (checkHeaderVotes h) (headersRefusal hs) e in (q .0, legal hs (q .1))
 
-vote-allowed : (g : VotingConfig) (height : ℕ) (h : List ℕ) (t : Table) → forkRefusal (checkForkVote g height h t) ≡ 0 → votesFor 120 h ≡ true
+vote-allowed : (g : VotingConfig) (height : ℕ) (h : List ℕ) (t : Table) → forkRefusal (checkForkVote g height h t) ≡ 0 → votesFor softForkVote h ≡ true
     → checkRound g height (t .fork .start) (t .fork .votes) ≡ Allowed
 unfolding checkForkVote forkRefusal lookup
-vote-allowed g height h t e v = go (settingsLarge g) (votesFor 120 h) v e
+vote-allowed g height h t e v = go (settingsLarge g) (votesFor softForkVote h) v e
   where
     go : (p q : Bool) → q ≡ true → forkRefusal (cond p (Refused′ settingLarge) (cond q (checkRound g height (t .fork .start) (t .fork .votes)) Allowed)) ≡ 0
         → checkRound g height (t .fork .start) (t .fork .votes) ≡ Allowed
@@ -94,8 +94,8 @@ boundary-allowed g t height (a ∷ b ∷ c ∷ votes) e v =
 -- the boundary that passes
 module _ (g : VotingConfig) (height : ℕ) (t : Table) (tally : List Entry) (vote : Bool) (s : List ℕ) where
   record Passes : Type 0 where
-    round-passes : roundAt g height vote (firstCount (pos 120) tally) (t .fork) .refusal ≡ 0
-    new-fork : computedOf g height t tally vote s .table .fork ≡ forkAfter g height (roundAt g height vote (firstCount (pos 120) tally) (t .fork) .round) (t .fork) .fork
+    round-passes : roundAt g height vote (firstCount (pos softForkVote) tally) (t .fork) .refusal ≡ 0
+    new-fork : computedOf g height t tally vote s .table .fork ≡ forkAfter g height (roundAt g height vote (firstCount (pos softForkVote) tally) (t .fork) .round) (t .fork) .fork
 
   passes : computedOf g height t tally vote s .refusal ≡ 0 → Passes
   unfolding computedOf withUpdate activates
@@ -133,19 +133,18 @@ record Met (s : Replay) (height : ℕ) (votes : List ℕ) (u : Replay) : Type 0 
   top : height + votingLength (s .settings) ≤ 2 ^ 31
   all-legal : AllLegal (headers votes)
   check : boundaryVotes votes ≡ true → checkRound (s .settings) height (s .table .fork .start) (s .table .fork .votes) ≡ Allowed
-  fork-part : u .table .fork ≡ forkAfter (s .settings) height (roundAt (s .settings) height (boundaryVotes votes) (firstCount (pos 120) (entries (s .tally))) (s .table .fork) .round) (s .table .fork) .fork
+  fork-part : u .table .fork ≡ forkAfter (s .settings) height (roundAt (s .settings) height (boundaryVotes votes) (firstCount (pos softForkVote) (entries (s .tally))) (s .table .fork) .round) (s .table .fork) .fork
   next-is : u .next ≡ height + votingLength (s .settings)
   brings : u .tally ≡ seeded votes
   settings-stay : u .settings ≡ s .settings
 
 matched-accepts : (s : Replay) (height : ℕ) (votes : List ℕ) (t : Table) (m : Matched) (u : Replay) → Accepts (afterMatch s height votes t m) u → onward s height votes t ≡ u
 unfolding afterMatch
-matched-accepts s height votes t m u e = go (eqb (m .refusal) 0) e
+matched-accepts s height votes t m u e = go (eqb (m .refusal) 0) _ e
   where
-    go : (b : Bool) → Accepts (cond b (gate s (checkForkVotes (s .settings) t (height + 1) (drop 3 votes)) (record { verdict = Accepted; state = onward s height votes t })) (record { verdict = Mismatch (m .id); state = s })) u
-        → onward s height votes t ≡ u
-    go true x = ap (λ (r : Replayed). r .state) (gate-zero s (checkForkVotes (s .settings) t (height + 1) (drop 3 votes)) (record { verdict = Accepted; state = onward s height votes t }) u x .1)
-    go false x =
+    go : (b : Bool) (n : ℕ) → Accepts (cond b (gate s n (record { verdict = Accepted; state = onward s height votes t })) (record { verdict = Mismatch (m .id); state = s })) u → onward s height votes t ≡ u
+    go true n x = ap (λ (r : Replayed). r .state) (gate-zero s n _ u x .1)
+    go false n x =
         let v : Mismatch (m .id) ≡ Accepted = ap (λ (r : Replayed). r .verdict) x in
         absurd (let z : _≡_ {A = ℕ} 0 1 = cc in omega arith)
 
@@ -162,7 +161,7 @@ parts-met s height body votes u l e₀ =
     let q = sym (matched-accepts s height votes (b .table) (checkParameters (b .table) (parametersOf body .map)) u (a₅ .1)) in
     let w = both (eqb height (s .next)) (leb (height + votingLength g) (2 ^ 31)) (zero-test _ (a₁ .0)) in
     let p = passes g height (s .table) (entries (s .tally)) (boundaryVotes votes) (proposedUpdate body) (a₅ .0) in
-    let m = not-large g height (boundaryVotes votes) (firstCount (pos 120) (entries (s .tally))) (s .table .fork) (p .round-passes) in
+    let m = not-large g height (boundaryVotes votes) (firstCount (pos softForkVote) (entries (s .tally))) (s .table .fork) (p .round-passes) in
     record {
       height-is = eqb-true height (s .next) (w .0);
       top = leb-true (height + votingLength g) (2 ^ 31) (w .1);
@@ -225,7 +224,7 @@ lawful g c xs t e =
       check = m .1 .check;
       part = ap (λ (x : Core). x .table .fork) (sym (a .1)) ∙ m .1 .fork-part;
       next = ap (λ (x : Core). x .next) (sym (a .1)) ∙ m .1 .next-is;
-      brings = ap (λ (x : Core). firstCount (pos 120) (entries (x .tally))) (sym (a .1)) ∙ ap (λ (y : Tally). firstCount (pos 120) (entries y)) (m .1 .brings);
+      brings = ap (λ (x : Core). firstCount (pos softForkVote) (entries (x .tally))) (sym (a .1)) ∙ ap (λ (y : Tally). firstCount (pos softForkVote) (entries y)) (m .1 .brings);
     }
 
 -- an accepted record's epoch ends at 2^31 or before, where the next one begins
@@ -256,11 +255,11 @@ gate-keeps s (suc n) r k = refl
 
 matched-keeps : (s : Replay) (height : ℕ) (votes : List ℕ) (t : Table) (m : Matched) → Keeps s (afterMatch s height votes t m)
 unfolding afterMatch
-matched-keeps s height votes t m = go (eqb (m .refusal) 0)
+matched-keeps s height votes t m = go (eqb (m .refusal) 0) _
   where
-    go : (b : Bool) → Keeps s (cond b (gate s (checkForkVotes (s .settings) t (height + 1) (drop 3 votes)) (record { verdict = Accepted; state = onward s height votes t })) (record { verdict = Mismatch (m .id); state = s }))
-    go true = gate-keeps s (checkForkVotes (s .settings) t (height + 1) (drop 3 votes)) (record { verdict = Accepted; state = onward s height votes t }) refl
-    go false = refl
+    go : (b : Bool) (n : ℕ) → Keeps s (cond b (gate s n (record { verdict = Accepted; state = onward s height votes t })) (record { verdict = Mismatch (m .id); state = s }))
+    go true n = gate-keeps s n (record { verdict = Accepted; state = onward s height votes t }) refl
+    go false n = refl
 
 parts-keep : (s : Replay) (height : ℕ) (body votes : List ℕ) → Keeps s (onParts s height body votes)
 unfolding onParts afterBoundary
@@ -304,19 +303,19 @@ goes-on g s e (xs ∷ calls) =
 
 -- ---- the theorem
 
-opening : (s : Replay) (version : ℕ) → s .settings ≡ mainnet → s .next % 1024 ≡ 0 → s .tally ≡ noTally → version ≤ 255 → s .table .fork ≡ forkEntries Absent Absent (Number (pos version))
+opening : (s : Replay) (version : ℕ) → s .settings ≡ mainnet → s .next % votingLength mainnet ≡ 0 → s .tally ≡ noTally → version ≤ 255 → s .table .fork ≡ forkEntries Absent Absent (Number (pos version))
     → Opening mainnet (interface mainnet) (core s) version []
 unfolding mainnet counted boundaryVotes firstVotes headers firstCount entries entry eqZ
 opening s version e m y v f =
-    record { multiple = m; version-small = v; table = f; brought = ap (λ (z : Tally). firstCount (pos 120) (entries z)) y ∙ no-votes; few = none }
+    record { multiple = m; version-small = v; table = f; brought = ap (λ (z : Tally). firstCount (pos softForkVote) (entries z)) y ∙ no-votes; few = none }
   where
-    no-votes : firstCount (pos 120) (entries noTally) ≡ counted []
+    no-votes : firstCount (pos softForkVote) (entries noTally) ≡ counted []
     no-votes = refl
 
-    none : counted [] ≤ 1024
+    none : counted [] ≤ votingLength mainnet
     none = omega arith
 
-pub kept : (s : Replay) (version : ℕ) → s .settings ≡ mainnet → s .next % 1024 ≡ 0 → s .tally ≡ noTally → version ≤ 255 → s .table .fork ≡ forkEntries Absent Absent (Number (pos version))
+pub kept : (s : Replay) (version : ℕ) → s .settings ≡ mainnet → s .next % votingLength mainnet ≡ 0 → s .tally ≡ noTally → version ≤ 255 → s .table .fork ≡ forkEntries Absent Absent (Number (pos version))
     → (calls : List (List ℕ)) → Kept s version calls
 kept s version e m y v f calls =
     let a = goes-on mainnet s e calls in

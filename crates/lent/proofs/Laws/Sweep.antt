@@ -26,6 +26,7 @@ use Rattle.voting.specs.declared.fork.Forked.{Forked}
 use Rattle.voting.specs.declared.boundary.Boundary.{Boundary}
 use Rattle.voting.specs.Common.{eqZ}
 use Rattle.voting.specs.Table.{lookup, update, withFork}
+use Rattle.voting.specs.Header.{softForkVote}
 use Rattle.voting.specs.Tally.{noEntry, firstCount}
 use Rattle.voting.specs.ForkPart.{noRound, roundAt, forkAfter}
 use Rattle.voting.specs.Ordinary.{parameter, moved, known, passes, stops, onward, counts, writes, approvedVote, voted, ordinaryVotes}
@@ -59,23 +60,23 @@ votes-go v g t id j count q e = rw (q, eq-eqb (v .refusal) 0 e)
 
 -- an entry
 module _ (s : Sweep) (id : ℤ) (fits : SFits w8 id) where
-  pub found-fork : eqb (ofZ w8 id) 120 ≡ true → true ≡ cond (eqZ id (pos 120)) true (s .found)
-  found-fork e = rw (is-number w8 id 120 fits (omega arith), e)
+  pub found-fork : eqb (ofZ w8 id) softForkVote ≡ true → true ≡ cond (eqZ id (pos softForkVote)) true (s .found)
+  found-fork e = rw (is-number w8 id softForkVote fits (omega arith), e)
 
-  pub found-other : eqb (ofZ w8 id) 120 ≡ false → s .found ≡ cond (eqZ id (pos 120)) true (s .found)
-  found-other e = rw (is-number w8 id 120 fits (omega arith), e)
+  pub found-other : eqb (ofZ w8 id) softForkVote ≡ false → s .found ≡ cond (eqZ id (pos softForkVote)) true (s .found)
+  found-other e = rw (is-number w8 id softForkVote fits (omega arith), e)
 
-  module _ (count : ℕ) (found : Bool) (is-found : found ≡ cond (eqZ id (pos 120)) true (s .found))
+  module _ (count : ℕ) (found : Bool) (is-found : found ≡ cond (eqZ id (pos softForkVote)) true (s .found))
       (j : ℤ) (is-j : j ≡ id) (v : Voted) (is-v : v ≡ onward (s .voted) (voted (s .at .config) (s .at .table) (record { id = j; count = count }))) where
-    pub swept-first : (eqb (ofZ w8 id) 120 && not (s .found)) ≡ true
+    pub swept-first : (eqb (ofZ w8 id) softForkVote && not (s .found)) ≡ true
         → record { at = s .at; parsed = s .parsed; disables = s .disables; found = found; votes = count; voted = v } ≡ sweptOf s id count
     unfolding sweptOf
-    swept-first e = rw (is-found, is-v, is-j, is-number w8 id 120 fits (omega arith), e)
+    swept-first e = rw (is-found, is-v, is-j, is-number w8 id softForkVote fits (omega arith), e)
 
-    pub swept-other : (eqb (ofZ w8 id) 120 && not (s .found)) ≡ false
+    pub swept-other : (eqb (ofZ w8 id) softForkVote && not (s .found)) ≡ false
         → record { at = s .at; parsed = s .parsed; disables = s .disables; found = found; votes = s .votes; voted = v } ≡ sweptOf s id count
     unfolding sweptOf
-    swept-other e = rw (is-found, is-v, is-j, is-number w8 id 120 fits (omega arith), e)
+    swept-other e = rw (is-found, is-v, is-j, is-number w8 id softForkVote fits (omega arith), e)
 
 -- after the last entry
 module _ (s : Sweep) (r : RoundAt) (f : Forked) where
@@ -147,7 +148,7 @@ keeps-disables s (e ∷ es) = keeps-disables (sweptOf s (e .id) (e .count)) es
 -- the count of the first entry for the fork
 swept-found : (s : Sweep) (id : ℤ) (count : ℕ) → s .found ≡ true → (sweptOf s id count .found ≡ true) × (sweptOf s id count .votes ≡ s .votes)
 unfolding sweptOf
-swept-found s id count h = rw h (go (eqZ id (pos 120)))
+swept-found s id count h = rw h (go (eqZ id (pos softForkVote)))
   where
     go : (b : Bool) → (cond b true true ≡ true) × (cond (b && false) count (s .votes) ≡ s .votes)
     go true = (refl, refl)
@@ -160,22 +161,22 @@ keeps-votes s (e ∷ es) h =
     let w = swept-found s (e .id) (e .count) h in
     keeps-votes (sweptOf s (e .id) (e .count)) es (w .0) ∙ w .1
 
-swept-fork : (s : Sweep) (id : ℤ) (count : ℕ) → s .found ≡ false → eqZ id (pos 120) ≡ true → (sweptOf s id count .found ≡ true) × (sweptOf s id count .votes ≡ count)
+swept-fork : (s : Sweep) (id : ℤ) (count : ℕ) → s .found ≡ false → eqZ id (pos softForkVote) ≡ true → (sweptOf s id count .found ≡ true) × (sweptOf s id count .votes ≡ count)
 unfolding sweptOf
 swept-fork s id count h q = rw (q, h) (refl, refl)
 
-swept-plain : (s : Sweep) (id : ℤ) (count : ℕ) → eqZ id (pos 120) ≡ false → (sweptOf s id count .found ≡ s .found) × (sweptOf s id count .votes ≡ s .votes)
+swept-plain : (s : Sweep) (id : ℤ) (count : ℕ) → eqZ id (pos softForkVote) ≡ false → (sweptOf s id count .found ≡ s .found) × (sweptOf s id count .votes ≡ s .votes)
 unfolding sweptOf
 swept-plain s id count q = rw q (refl, refl)
 
-first-votes : (s : Sweep) (es : List Entry) → s .found ≡ false → s .votes ≡ 0 → sweepOf s es .votes ≡ firstCount (pos 120) es
+first-votes : (s : Sweep) (es : List Entry) → s .found ≡ false → s .votes ≡ 0 → sweepOf s es .votes ≡ firstCount (pos softForkVote) es
 unfolding sweepOf firstCount
 first-votes s [] h z = z
-first-votes s (e ∷ es) h z = go (eqZ (e .id) (pos 120)) refl (first-votes (sweptOf s (e .id) (e .count)) es)
+first-votes s (e ∷ es) h z = go (eqZ (e .id) (pos softForkVote)) refl (first-votes (sweptOf s (e .id) (e .count)) es)
   where
-    go : (b : Bool) → eqZ (e .id) (pos 120) ≡ b
-        → (sweptOf s (e .id) (e .count) .found ≡ false → sweptOf s (e .id) (e .count) .votes ≡ 0 → sweepOf (sweptOf s (e .id) (e .count)) es .votes ≡ firstCount (pos 120) es)
-        → sweepOf (sweptOf s (e .id) (e .count)) es .votes ≡ cond b (e .count) (firstCount (pos 120) es)
+    go : (b : Bool) → eqZ (e .id) (pos softForkVote) ≡ b
+        → (sweptOf s (e .id) (e .count) .found ≡ false → sweptOf s (e .id) (e .count) .votes ≡ 0 → sweepOf (sweptOf s (e .id) (e .count)) es .votes ≡ firstCount (pos softForkVote) es)
+        → sweepOf (sweptOf s (e .id) (e .count)) es .votes ≡ cond b (e .count) (firstCount (pos softForkVote) es)
     go true q rest =
         let w = swept-fork s (e .id) (e .count) h q in
         keeps-votes (sweptOf s (e .id) (e .count)) es (w .0) ∙ w .1
@@ -264,17 +265,17 @@ fork-finished : (s : Sweep) (r : RoundAt) (f : Forked) (es : List Entry) → s .
 unfolding finishedFork afterFork afterVotes
 fork-finished s r f es e = rw (votes-beside (s .at .config) (s .at .table) (f .fork) es (s .at .table), e)
 
-boundary-finished : (s : Sweep) (es : List Entry) → s .votes ≡ firstCount (pos 120) es → s .voted ≡ ordinaryVotes (s .at .config) (s .at .table) es (s .at .table)
+boundary-finished : (s : Sweep) (es : List Entry) → s .votes ≡ firstCount (pos softForkVote) es → s .voted ≡ ordinaryVotes (s .at .config) (s .at .table) es (s .at .table)
     → finishedRound s (roundAt (s .at .config) (s .at .height) (s .at .vote) (s .votes) (s .at .table .fork))
     ≡ boundaryOf (s .at .config) (s .at .height) (s .at .table) es (s .at .vote) (s .disables)
 unfolding finishedRound boundaryOf afterRound
 boundary-finished s es n e =
-    let r = roundAt (s .at .config) (s .at .height) (s .at .vote) (firstCount (pos 120) es) (s .at .table .fork) in
+    let r = roundAt (s .at .config) (s .at .height) (s .at .vote) (firstCount (pos softForkVote) es) (s .at .table .fork) in
     ap (λ (k : ℕ). finishedRound s (roundAt (s .at .config) (s .at .height) (s .at .vote) k (s .at .table .fork))) n
     ∙ ap (gate (s .at .table) (r .refusal)) (fork-finished s r (forkAfter (s .at .config) (s .at .height) (r .round) (s .at .table .fork)) es e)
 
 all-finished : (x : Sweep) (tally : List Entry) (s : List ℕ) → x .parsed ≡ updateOf s → x .disables ≡ disables s (updateOf s .update) 409
-    → x .votes ≡ firstCount (pos 120) tally → x .voted ≡ ordinaryVotes (x .at .config) (x .at .table) tally (x .at .table)
+    → x .votes ≡ firstCount (pos softForkVote) tally → x .voted ≡ ordinaryVotes (x .at .config) (x .at .table) tally (x .at .table)
     → finishedOf x ≡ computedOf (x .at .config) (x .at .height) (x .at .table) tally (x .at .vote) s
 unfolding finishedOf computedOf withUpdate
 all-finished x tally s p d n e = rw (boundary-finished x tally n e, p, d)

@@ -18,6 +18,7 @@ use Rattle.voting.specs.declared.fork.Forked.{Forked}
 use Rattle.voting.specs.declared.ordinary.Voted.{Voted}
 use Rattle.voting.specs.declared.boundary.Boundary.{Boundary}
 use Rattle.voting.specs.Table.{lookup, update, withFork, versionRefusal, checkBlockVersion}
+use Rattle.voting.specs.Header.{softForkVote}
 use Rattle.voting.specs.Tally.{firstCount}
 use Rattle.voting.specs.ForkPart.{roundAt, forkAfter}
 use Rattle.voting.specs.Ordinary.{known, ordinaryVotes}
@@ -66,7 +67,7 @@ gate-pass t zero b e = refl
 gate-pass t (suc n) b e = absurd (omega arith)
 
 module _ (g : VotingConfig) (height : ℕ) (t : Table) (tally : List Entry) (vote disables : Bool) (r : RoundAt)
-    (is-r : r ≡ roundAt g height vote (firstCount (pos 120) tally) (t .fork)) where
+    (is-r : r ≡ roundAt g height vote (firstCount (pos softForkVote) tally) (t .fork)) where
   by-round : afterRound g height t tally disables r ≡ boundaryOf g height t tally vote disables
   unfolding boundaryOf
   by-round = ap (afterRound g height t tally disables) is-r
@@ -119,15 +120,15 @@ gate-zero t (suc n) b e = absurd (omega arith)
 
 -- neither the round nor the fork entries were refused, and the new table has these entries
 pub record Passed (g : VotingConfig) (height : ℕ) (t : Table) (tally : List Entry) (vote disables : Bool) : Type 0 where
-  pub round-passes : roundAt g height vote (firstCount (pos 120) tally) (t .fork) .refusal ≡ 0
-  pub fork-passes : forkAfter g height (roundAt g height vote (firstCount (pos 120) tally) (t .fork) .round) (t .fork) .refusal ≡ 0
-  pub new-fork : boundaryOf g height t tally vote disables .table .fork ≡ forkAfter g height (roundAt g height vote (firstCount (pos 120) tally) (t .fork) .round) (t .fork) .fork
-  pub same-round : boundaryOf g height t tally vote disables .round ≡ roundAt g height vote (firstCount (pos 120) tally) (t .fork) .round
+  pub round-passes : roundAt g height vote (firstCount (pos softForkVote) tally) (t .fork) .refusal ≡ 0
+  pub fork-passes : forkAfter g height (roundAt g height vote (firstCount (pos softForkVote) tally) (t .fork) .round) (t .fork) .refusal ≡ 0
+  pub new-fork : boundaryOf g height t tally vote disables .table .fork ≡ forkAfter g height (roundAt g height vote (firstCount (pos softForkVote) tally) (t .fork) .round) (t .fork) .fork
+  pub same-round : boundaryOf g height t tally vote disables .round ≡ roundAt g height vote (firstCount (pos softForkVote) tally) (t .fork) .round
 
 pub passed : (g : VotingConfig) (height : ℕ) (t : Table) (tally : List Entry) (vote disables : Bool) → boundaryOf g height t tally vote disables .refusal ≡ 0 → Passed g height t tally vote disables
 unfolding boundaryOf afterRound afterFork afterVotes
 passed g height t tally vote disables e =
-    let r = roundAt g height vote (firstCount (pos 120) tally) (t .fork) in
+    let r = roundAt g height vote (firstCount (pos softForkVote) tally) (t .fork) in
     let f = forkAfter g height (r .round) (t .fork) in
     let from = withFork t (f .fork) in
     let v = ordinaryVotes g from tally from in

@@ -26,7 +26,7 @@ use Rattle.codec.proofs.Laws.Signed.{wrapped-natural, wrapped-pos}
 use Rattle.voting.specs.Common.{eqZ}
 use Rattle.voting.specs.Settings.{votingLength, voteEpochs, activationEpochs, softForkApproved, settingsLarge}
 use Rattle.voting.specs.Table.{lookup, forkEntries}
-use Rattle.voting.specs.Header.{votesFor}
+use Rattle.voting.specs.Header.{softForkVote, votesFor}
 use Rattle.voting.specs.ForkCheck.{epochsAfter, between, barred, checkRound, checkForkVote, forkRefusal, roundOpen, votesOpen}
 use Rattle.voting.specs.ForkPart.{noRound, happens, roundRefused, forkTotal, roundSteps, roundBy, roundFrom, roundAt, storedOr, votesAfter, startAfter, risen, forced, versionAfter}
 use Rattle.voting.proofs.Laws.Integers.{at-exactly, at-most, at-least, below}
@@ -80,7 +80,7 @@ module _ (g : VotingConfig) (h : ℕ) (votes : List ℕ) (t : Table) (large : Bo
   unfolding checkForkVote
   check-large e = rw (← is-large, e)
 
-  module _ (small : large ≡ false) (v : Bool) (is-v : v ≡ votesFor 120 votes) where
+  module _ (small : large ≡ false) (v : Bool) (is-v : v ≡ votesFor softForkVote votes) where
     pub check-silent : v ≡ false → Allowed ≡ checkForkVote g h votes t
     unfolding checkForkVote
     check-silent e = rw (← is-large, small, ← is-v, e)
@@ -125,7 +125,7 @@ round-allows g end h (Number s) (Number n) e b = rw (unbarred g end h s n e b)
 
 pub open-allows : (g : VotingConfig) (end : ℕ) (t : Table) → votesOpen g end t ≡ true → (h : ℕ) (votes : List ℕ) → h < end → forkRefusal (checkForkVote g h votes t) ≡ 0
 unfolding votesOpen checkForkVote forkRefusal
-open-allows g end t e h votes b = go (settingsLarge g) (votesFor 120 votes) e
+open-allows g end t e h votes b = go (settingsLarge g) (votesFor softForkVote votes) e
   where
     go : (large v : Bool) → (not large && roundOpen g end (lookup t 122) (lookup t 121)) ≡ true
         → forkRefusal (cond large (Refused 18) (cond v (checkRound g h (lookup t 122) (lookup t 121)) Allowed)) ≡ 0

@@ -16,7 +16,7 @@ use Rattle.codec.proofs.Laws.Signed.{signed-back}
 use Rattle.voting.specs.Common.{eqZ, count, first, Each}
 use Rattle.voting.proofs.Laws.Tests.{eqb-comm}
 use Rattle.voting.proofs.Laws.Integers.{eqZ-same, ne-eqZ, eqZ-comm}
-use Rattle.voting.specs.Header.{votesIn, negation, ordinaryVote, fault, faultIn, checkVotes, checkHeaderVotes, votesFor}
+use Rattle.voting.specs.Header.{softForkVote, votesIn, negation, ordinaryVote, fault, faultIn, checkVotes, checkHeaderVotes, votesFor}
 
 -- a statement of every element, turned into another
 pub each : {A : Type 0} (P Q : A → Type 0) → ((x : A) → P x → Q x) → (xs : List A) → Each P xs → Each Q xs
@@ -74,12 +74,12 @@ count-ids p q (b ∷ bs) h =
     ap (λ (n : ℕ). cond (not (eqb b 0) && p (signedOf 8 b)) 1 0 + n) (count-ids p q bs (h .1)) ∙
     ap (λ (t : Bool). cond t 1 0 + count q bs) (h .0)
 
-ordinary-ids : (bs : List ℕ) → count ordinaryVote (votesIn bs) ≡ count (λ b. not (eqb b 0) && not (eqb b 120)) bs
+ordinary-ids : (bs : List ℕ) → count ordinaryVote (votesIn bs) ≡ count (λ b. not (eqb b 0) && not (eqb b softForkVote)) bs
 unfolding ordinaryVote signedOf
 ordinary-ids bs =
-    count-ids ordinaryVote (λ b. not (eqb b 0) && not (eqb b 120)) bs
-    (each (λ b. eqZ (signedOf 8 b) (pos 120) ≡ eqb 120 b) (λ b. not (eqb b 0) && ordinaryVote (signedOf 8 b) ≡ not (eqb b 0) && not (eqb b 120))
-    (λ b e. ap (λ (t : Bool). not (eqb b 0) && not t) (e ∙ eqb-comm 120 b)) bs (alike-small 120 (omega arith) bs))
+    count-ids ordinaryVote (λ b. not (eqb b 0) && not (eqb b softForkVote)) bs
+    (each (λ b. eqZ (signedOf 8 b) (pos softForkVote) ≡ eqb softForkVote b) (λ b. not (eqb b 0) && ordinaryVote (signedOf 8 b) ≡ not (eqb b 0) && not (eqb b softForkVote))
+    (λ b e. ap (λ (t : Bool). not (eqb b 0) && not t) (e ∙ eqb-comm softForkVote b)) bs (alike-small softForkVote (omega arith) bs))
 
 -- a byte that is a vote
 vote-test : (v b : ℕ) → (v ≡ 0 → ⊥) → not (eqb b 0) && eqb v b ≡ eqb v b
@@ -176,7 +176,7 @@ fault-cons all b bs = go (eqb b 0)
     go false = refl
 
 -- the judgement of a header, by what is found among the bytes
-module _ (bs : List ℕ) {n : ℕ} (is-n : n ≡ count (λ b. not (eqb b 0) && not (eqb b 120)) bs) where
+module _ (bs : List ℕ) {n : ℕ} (is-n : n ≡ count (λ b. not (eqb b 0) && not (eqb b softForkVote)) bs) where
   pub many-votes : 2 < n → tooManyVotes ≡ checkHeaderVotes bs
   unfolding checkHeaderVotes checkVotes
   many-votes h = rw (ordinary-ids bs, ← is-n, lt-ltb 2 n h)
@@ -212,7 +212,7 @@ or-or : (x y z : Bool) → (x || y) || z ≡ x || (y || z)
 or-or true y z = refl
 or-or false y z = refl
 
-module _ (a b c : ℕ) {n : ℕ} (is-n : n ≡ count (λ b. not (eqb b 0) && not (eqb b 120)) (a ∷ b ∷ c ∷ [])) where
+module _ (a b c : ℕ) {n : ℕ} (is-n : n ≡ count (λ b. not (eqb b 0) && not (eqb b softForkVote)) (a ∷ b ∷ c ∷ [])) where
   abbrev wrong : ℕ → ℕ
   wrong v = cond (eqb v 0) 0 (fault (votesIn (a ∷ b ∷ c ∷ [])) (signedOf 8 v))
 

@@ -19,7 +19,7 @@ use Rattle.voting.specs.declared.tally.Entry.{Entry}
 use Rattle.voting.specs.declared.tally.Tally.{Tally}
 use Rattle.voting.specs.declared.tally.Tallied.{Tallied}
 use Rattle.voting.specs.Common.{eqZ, count}
-use Rattle.voting.specs.Header.{votesFor, AllLegal}
+use Rattle.voting.specs.Header.{softForkVote, votesFor, AllLegal}
 use Rattle.voting.specs.Tally.{headers, whole, noEntry, noTally, slotEntry, seeded, seeds, tallyVotesSeeded, entry, entries, firstCount}
 use Rattle.voting.proofs.Laws.Integers.{eqZ-true, ne-eqZ, is-number}
 use Rattle.voting.proofs.Laws.Header.{small-id, legal-once}
@@ -112,17 +112,17 @@ unfolding entries
 places v n y = rw (entry-count v n (y .first) (entry (y .second) (entry (y .third) [])), entry-count v n (y .second) (entry (y .third) []), entry-count v n (y .third) [], nothing v)
 
 -- the machine's test of an id for the fork
-fork-test : (z : ℤ) → SFits w8 z → eqZ z (pos 120) ≡ eqb (ofZ w8 z) 120
-fork-test z f = is-number w8 z 120 f (omega arith)
+fork-test : (z : ℤ) → SFits w8 z → eqZ z (pos softForkVote) ≡ eqb (ofZ w8 z) softForkVote
+fork-test z f = is-number w8 z softForkVote f (omega arith)
 
-pub is-fork : (z : ℤ) → SFits w8 z → ofZ w8 z ≡ 120 → eqZ z (pos 120) ≡ true
-is-fork z f e = fork-test z f ∙ eq-eqb (ofZ w8 z) 120 e
+pub is-fork : (z : ℤ) → SFits w8 z → ofZ w8 z ≡ softForkVote → eqZ z (pos softForkVote) ≡ true
+is-fork z f e = fork-test z f ∙ eq-eqb (ofZ w8 z) softForkVote e
 
-pub not-fork : (z : ℤ) → SFits w8 z → (ofZ w8 z ≡ 120 → ⊥) → eqZ z (pos 120) ≡ false
-not-fork z f e = fork-test z f ∙ ne-eqb (ofZ w8 z) 120 e
+pub not-fork : (z : ℤ) → SFits w8 z → (ofZ w8 z ≡ softForkVote → ⊥) → eqZ z (pos softForkVote) ≡ false
+not-fork z f e = fork-test z f ∙ ne-eqb (ofZ w8 z) softForkVote e
 
-pub fork-by : (y : Tally) (s t u : Bool) → eqZ (y .first .id) (pos 120) ≡ s → eqZ (y .second .id) (pos 120) ≡ t → eqZ (y .third .id) (pos 120) ≡ u → cond s (y .first .count) (cond t (y .second .count) (cond u (y .third .count) 0)) ≡ firstCount (pos 120) (entries y)
-fork-by y s t u p q r = rw (places (pos 120) (λ e. let z : _≡_ {A = ℕ} 0 120 = cc in omega arith) y, p, q, r)
+pub fork-by : (y : Tally) (s t u : Bool) → eqZ (y .first .id) (pos softForkVote) ≡ s → eqZ (y .second .id) (pos softForkVote) ≡ t → eqZ (y .third .id) (pos softForkVote) ≡ u → cond s (y .first .count) (cond t (y .second .count) (cond u (y .third .count) 0)) ≡ firstCount (pos softForkVote) (entries y)
+fork-by y s t u p q r = rw (places (pos softForkVote) (λ e. let z : _≡_ {A = ℕ} 0 softForkVote = cc in omega arith) y, p, q, r)
 
 -- Headers, three bytes each
 whole-cons : (a b c : ℕ) (bs : List ℕ) → whole (a ∷ b ∷ c ∷ bs) ≡ a ∷ b ∷ c ∷ whole bs

@@ -6,12 +6,13 @@ use Prim.Native.Nat.{_-_}
 use lib.Dec.{eqb}
 use lib.ListN.{length, drop}
 use Rattle.voting.specs.Common.{count}
+use Rattle.voting.specs.Header.{softForkVote}
 use borrow.Author.Needs.{needs}
 use Rattle.archive.proofs.headers.any_fork_vote.Statement.{statement}
 use Rattle.archive.proofs.headers.any_fork_vote.Tie as tie
 
 abbrev Inv-loop : tie.InvT-loop
-Inv-loop votes found₀ i₀ found i = found ≡ false → count (eqb 120) (drop i votes) ≡ count (eqb 120) votes
+Inv-loop votes found₀ i₀ found i = found ≡ false → count (eqb softForkVote) (drop i votes) ≡ count (eqb softForkVote) votes
 
 abbrev μ-loop : tie.MeasureT-loop
 μ-loop votes found₀ i₀ found i = length votes - i
@@ -29,10 +30,10 @@ loop-less : tie.Need-loop-less Inv-loop μ-loop
 loop-less c = search needs
 
 loop-again : tie.Need-loop-again Inv-loop μ-loop
-loop-again c = found-on _ _ _ (eqb 120) (c .before .loop-test .taken) (c .before .before .loop .inv)
+loop-again c = found-on _ _ _ (eqb softForkVote) (c .before .loop-test .taken) (c .before .before .loop .inv)
 
 returns : tie.Need-returns Inv-loop μ-loop
-returns c = found-end _ _ _ (eqb 120) (c .loop-test .left) (c .before .loop .inv)
+returns c = found-end _ _ _ (eqb softForkVote) (c .loop-test .left) (c .before .loop .inv)
 
 pub any-fork-vote-spec : {M : Type 1} → statement M
 any-fork-vote-spec =

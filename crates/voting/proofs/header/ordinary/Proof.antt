@@ -6,6 +6,7 @@ use Rattle.voting.proofs.Laws.Header.{count-three}
 use borrow.Author.Needs.{needs}
 use Rattle.voting.proofs.header.ordinary.Statement.{statement}
 use Rattle.voting.proofs.header.ordinary.Tie as tie
+use Rattle.voting.specs.Header.{softForkVote}
 
 one-requires : tie.Need-one-requires
 one-requires c κs = search needs
@@ -25,7 +26,7 @@ add-result-2 c = search needs
 returns : tie.Need-returns
 returns c =
     let a = c .before .before .before .args in
-    count-three (λ (x : ℕ). not (eqb x 0) && not (eqb x 120)) (a .a) (a .b) (a .c) (c .before .before .one .ensures .0) (c .before .one2 .ensures .0) (c .one3 .ensures .0)
+    count-three (λ (x : ℕ). not (eqb x 0) && not (eqb x softForkVote)) (a .a) (a .b) (a .c) (c .before .before .one .ensures .0) (c .before .one2 .ensures .0) (c .one3 .ensures .0)
 
 pub ordinary-spec : {M : Type 1} → statement M
 ordinary-spec =
