@@ -9,6 +9,7 @@ use archive::replay::Verdict;
 use codec::output;
 use codec::output::Wrote;
 use codec::refusal;
+use voting::settings::MAINNET_VOTING_LENGTH;
 use voting::settings::Network;
 use voting::table;
 use voting::table::Fork;
@@ -36,7 +37,9 @@ pub const LINE_MOST: usize = 47;
 const RECORD_REST: usize = 13;
 
 // The longest record of mainnet.
-pub const MAINNET_LONGEST: usize = RECORD_REST + record::BODY_MOST + 3 * 1024;
+pub const MAINNET_LONGEST: usize = RECORD_REST
+    + record::BODY_MOST
+    + 3 * (MAINNET_VOTING_LENGTH as usize);
 
 // The state of the replay, how many epochs were accepted, how many bytes of a record that is not whole stand at the start of the buffer, and
 // whether the reading has ended.
@@ -97,7 +100,10 @@ pub fn begin_mainnet() -> Run
     ensures { λ r. ⌜ r ≡ begun mainnetStart ⌝ }
     ensures begins { λ r. ⌜ Begins replayPrints (longestRecord mainnet) r ⌝ }
 {
-    let opened = replay::open(1024, table::default_parameters(Network::Mainnet));
+    let opened = replay::open(
+        MAINNET_VOTING_LENGTH,
+        table::default_parameters(Network::Mainnet),
+    );
     let state = opened.state;
     begin(state)
 }
