@@ -20,7 +20,7 @@ use Rattle.stream.specs.declared.run.Print.the-variants.{End}
 use Rattle.stream.specs.Lines.{endLine, lineMost}
 use Rattle.stream.specs.Put.{Added}
 use Rattle.stream.specs.Stream.{unless, printedAfter, Held, of-short, of-unless}
-use Rattle.stream.specs.Run.{endAt, stepOf, held, ahead, longestRecord, tooShort, Ready, textOf, ended, tookOf, tookCells, After, stands, behind, feedBy, feedOf, lastBy, lastOf, finishOf, fedOf, written, Feeds, Ends}
+use Rattle.stream.specs.Run.{endAt, stepOf, held, ahead, longestRecord, tooShort, Ready, textOf, ended, tookOf, tookCells, After, stands, behind, feedBy, feedOf, lastBy, lastOf, finishOf, failOf, fedOf, written, Feeds, Ends}
 use Rattle.stream.proofs.Laws.Added.{added-long, added-front, added-rest}
 use Rattle.stream.proofs.Laws.Stream.{left-none, left-short}
 use Rattle.stream.proofs.Laws.Reading.{lawful, says}
@@ -378,7 +378,7 @@ module _ (r : Run) (cells : List ℕ) (room : ℕ) where
   line-ends h n e = record { passes = refl; fits = let m = end-most (r .accepted) n in omega (arith, m, h); is-over = refl; all = e }
 
   -- an input that ends inside a record, or after one
-  end-line : Ready r cells → r .over ≡ false → ahead r cells [] ≡ endLine (r .accepted) (cond (eqb (r .filled) 0) 0 recordMalformed)
+  pub end-line : Ready r cells → r .over ≡ false → ahead r cells [] ≡ endLine (r .accepted) (cond (eqb (r .filled) 0) 0 recordMalformed)
   end-line y o = ahead-on r cells [] o ∙ go (r .filled) refl
     where
       inside-line : Held (endAt (r .replay .settings)) (held r cells) → 0 < length (held r cells)
@@ -391,6 +391,12 @@ module _ (r : Run) (cells : List ℕ) (room : ℕ) where
           ap (λ (j : ℕ). printedAfter (endAt (r .replay .settings)) stepOf (r .replay) (r .accepted) (take j cells ++ [])) e
           ∙ left-none (endAt (r .replay .settings)) (lawful (r .replay .settings)) stepOf (r .replay) (r .accepted)
       go (suc k) e = rw (ne-eqb (suc k) 0 (λ z. omega arith)) (inside-line (y .waits o) (let l = took (r .filled) cells (y .inside) in omega (arith, l, e)))
+
+  -- an input that can't be read on
+  pub fail-line : Ready r cells → lineMost ≤ room → r .over ≡ false → failOf r cells room .text ≡ endLine (r .accepted) recordMalformed
+  unfolding lastOf lastBy
+  fail-line y h o =
+      ap (λ (a : After). a .text) (sym (cond-no (tooShort r (length cells) room) _ _ (ready-enough r cells room y h)) ∙ sym (cond-no (r .over) _ _ o))
 
   pub finishes : Ready r cells → lineMost ≤ room → Ends r cells room (finishOf r cells room)
   finishes y h = subst (Ends r cells room) (finish-by y h) (by (r .over) refl)
