@@ -1,9 +1,20 @@
-// Runs streams of records. For each name of its arguments it feeds the bytes of the file NAME.records to a run, in pieces of several sizes,
-// and compares what is printed with the file NAME.lines. It prints a line for each name, and how many of them differ. docs/VECTORS.md,
-// "Streams".
-mod stream;
-
+// Runs streams of records. For each name of its arguments it runs the loop of program `replay` on the file NAME.records, with several sizes of
+// the bytes that are read and written at a time, and compares what was written with the file NAME.lines. It prints a line for each name, and
+// how many of them differ. docs/VECTORS.md, "Streams".
+use codec::signed;
 use rows::bytes;
+
+// What is written goes into a file that has no name.
+fn open_output() -> i32 {
+    let mut name = *b"/tmp/replay_streams.XXXXXX";
+    let fd = os::create_temp(&mut name);
+    if fd < 0 {
+        os::fail(b"replay_streams");
+        return fd;
+    }
+    os::unlink(&name);
+    fd
+}
 
 // Opens the file of a name with an ending; below 0 where it can't be opened.
 fn open(name: &[u8], ending: &[u8]) -> i32 {
@@ -21,36 +32,27 @@ fn open_path(path: &[u8; 4096], n: usize) -> i32 {
     fd
 }
 
-// Runs a file to its end, and answers whether the lines were printed. The turns are counted down from a number that no run uses up: nothing
-// says that a file ends.
-fn run_stream(
-    fd: i32,
-    size: usize,
-    lines: &[u8],
-    buf: &mut [u8; 0x1_0000],
-    cells: &mut [u8; 35853],
-) -> bool {
-    let mut s = stream::begin(lines);
-    let mut turns = u64::MAX;
-    while 0 < turns {
-        turns -= 1;
-        s = s.turn(fd, size, lines, buf, cells);
-        if s.ended {
-            return s.is_same(lines);
-        }
+// Whether a file has these bytes, read from its start, and no more.
+fn holds(fd: i32, lines: &[u8]) -> bool {
+    libc::lseek(fd, 0, libc::SEEK_SET);
+    let mut got = [0u8; 0x1_0001];
+    let n = io::read_full(fd, &mut got);
+    check::same(bytes::part(&got, 0, n), lines)
+}
+
+fn run(from: i32, to: i32, piece: usize, room: usize, lines: &[u8]) -> bool {
+    if (from < 0) | (to < 0) {
+        return false;
     }
-    false
+    replay_io::replay(signed::bits_i32(from), signed::bits_i32(to), piece, room);
+    holds(to, lines)
 }
 
-fn run_lent(fd: i32, size: usize, lines: &[u8]) -> bool {
-    let mut buf = [0u8; 0x1_0000];
-    let mut cells = [0u8; 35853];
-    run_stream(fd, size, lines, &mut buf, &mut cells)
-}
-
-fn print_answer(size: usize, same: bool) {
+fn print_answer(piece: usize, room: usize, same: bool) {
     io::write_all(1, b" ");
-    io::print_decimal(1, size as u64);
+    io::print_decimal(1, piece as u64);
+    io::write_all(1, b"/");
+    io::print_decimal(1, room as u64);
     if same {
         io::write_all(1, b" same");
         return;
@@ -58,24 +60,22 @@ fn print_answer(size: usize, same: bool) {
     io::write_all(1, b" differs");
 }
 
-// Whether what is printed for pieces of a size is what the lines say; prints it.
-fn run_size(name: &[u8], size: usize, lines: &[u8]) -> bool {
-    let fd = open(name, b".records");
-    if fd < 0 {
-        io::write_all(1, b" not opened");
-        return false;
-    }
-    let same = run_lent(fd, size, lines);
-    libc::close(fd);
-    print_answer(size, same);
+// Whether what is written, with so many bytes read and written at a time, is what the lines say; prints it.
+fn run_size(name: &[u8], piece: usize, room: usize, lines: &[u8]) -> bool {
+    let from = open(name, b".records");
+    let to = open_output();
+    let same = run(from, to, piece, room, lines);
+    libc::close(from);
+    libc::close(to);
+    print_answer(piece, room, same);
     same
 }
 
 fn run_sizes(name: &[u8], lines: &[u8]) -> bool {
-    let a = run_size(name, 1, lines);
-    let b = run_size(name, 7, lines);
-    let c = run_size(name, 1021, lines);
-    let d = run_size(name, 65536, lines);
+    let a = run_size(name, 1, 64, lines);
+    let b = run_size(name, 7, 47, lines);
+    let c = run_size(name, 1021, 65536, lines);
+    let d = run_size(name, 65536, 64, lines);
     a & b & c & d
 }
 
