@@ -575,7 +575,7 @@ fn refused_rows() {
     }
 }
 
-// Runs that hold what none holds after a call: a whole record, more than one, bytes that are none. And the count at its end.
+// Runs that hold what no call leaves: a whole record, more than one, bytes that begin none. And the count at its end, and after the end.
 fn held_rows() {
     println!("# edges: what is held is whole, or more, or malformed; the count at its end; after the end");
     let s = round_state();

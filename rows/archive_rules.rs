@@ -222,8 +222,8 @@ impl Fed {
     }
 }
 
-// Bytes of a piece, as long as there are any and a line finds room; in no more turns than the piece has bytes, which only a run that holds a
-// whole record, or bytes that are none, can need.
+// Bytes of a piece, as long as there are any and a line finds room; in no more turns than the piece has bytes, which stops no run but one that
+// holds a whole record or bytes that begin none.
 pub fn feed(r: &Run, cells: &[u8], piece: &[u8], room: usize) -> Fed {
     let mut fed = untouched(r, cells, room);
     if fed.refusal != 0 {
