@@ -1,4 +1,4 @@
-// Prints rows of recorded answers for the calls of crate archive, or writes streams of records with what is printed for them
+// Prints rows of recorded answers for the calls of crates archive and stream, or writes streams of records with what is printed for them
 // (docs/VECTORS.md has the form and says how to run this). All answers are those of archive_rules.rs.
 
 mod archive_rules;
@@ -135,11 +135,30 @@ fn with_run(b: Bytes, r: &Run) -> Bytes {
     with_state(b, &r.state).number(r.accepted).number(r.filled as u32).flag(r.over)
 }
 
-fn feed_row(r: &Run, cells: &[u8], piece: &[u8]) -> Fed {
-    let f = feed(r, cells, piece);
-    let answer = with_run(bytes().byte(f.refusal), &f.run).number(f.used as u32);
-    let answer = answer.number(f.text.len() as u32).all(f.text.as_bytes()).all(&f.cells);
-    with_run(bytes(), r).number(cells.len() as u32).all(cells).all(piece).gives(0x41, answer);
+fn with_text(b: Bytes, text: &[u8]) -> Bytes {
+    b.number(text.len() as u32).all(text)
+}
+
+// The bytes up to the last one that is not 0.
+fn shown(bytes: &[u8]) -> &[u8] {
+    &bytes[..bytes.iter().rposition(|b| *b != 0).map_or(0, |i| i + 1)]
+}
+
+const FEED: u8 = 0;
+const FINISH: u8 = 1;
+const FAIL: u8 = 2;
+
+// A call on a run, with an output of so many bytes.
+fn run_row(what: u8, r: &Run, cells: &[u8], room: usize, piece: &[u8]) -> Fed {
+    let f = match what {
+        FEED => feed(r, cells, piece, room),
+        FINISH => finish(r, cells, room),
+        _ => fail(r, cells, room),
+    };
+    let answer = with_run(bytes().byte(f.refusal), &f.run).number(f.used as u32).number(f.text.len() as u32);
+    let answer = with_text(with_text(answer, f.text.as_bytes()), shown(&f.cells));
+    let input = with_text(with_run(bytes().byte(what), r).number(cells.len() as u32), shown(cells));
+    input.number(room as u32).all(piece).gives(0x41, answer);
     f
 }
 
@@ -451,77 +470,8 @@ fn all_line_rows() {
     }
 }
 
-fn run_at(state: State) -> Run {
-    Run { state, accepted: 0, filled: 0, over: false }
-}
-
-// An input fed in pieces of a size, in a buffer of n cells, up to a refusal.
-fn feed_rows(mut r: Run, input: &[u8], size: usize, n: usize) {
-    let mut cells: Vec<u8> = (0..n).map(|i| 0xa5 ^ i as u8).collect();
-    for mut piece in input.chunks(size) {
-        while !piece.is_empty() {
-            let f = feed_row(&r, &cells, piece);
-            if f.refusal != 0 {
-                return;
-            }
-            piece = &piece[f.used..];
-            (r, cells) = (f.run, f.cells);
-        }
-    }
-    feed_row(&r, &cells, &[]);
-}
-
-fn all_feed_rows() {
-    let s = round_state();
-    let whole = epoch(&s, quiet(4));
-    let (_, _, next) = replay(&s, &whole);
-    let input = [&whole[..], &epoch(&next, quiet(4)), &[1, 0, 4, 0, 0, 0x10, 0, 2]].concat();
-    let longest = whole.len().max(epoch(&next, quiet(4)).len());
-    println!("# pieces of several sizes, and buffers that are as long as they must be, longer and too short");
-    for (size, n) in [(50, longest), (7, longest + 2), (1000, longest), (1000, longest - 1), (1000, 9), (3, 2), (1000, 0)] {
-        feed_rows(run_at(s), &input, size, n);
-    }
-    println!("# pieces that end the reading");
-    for bad in [&[2][..], &[1, 0, 5], &[0], &whole] {
-        feed_rows(run_at(next), &[bad, &whole].concat(), 40, longest);
-    }
-    println!("# edges: what stands in the buffer is whole, or malformed, or more than the buffer; the count at its end; after the end");
-    let held = |filled| Run { filled, accepted: u32::MAX, ..run_at(s) };
-    feed_row(&held(whole.len()), &whole, &[1, 2, 3]);
-    feed_row(&held(whole.len() - 1), &whole, &[0, 1]);
-    feed_row(&held(whole.len() + 1), &whole, &[]);
-    feed_row(&held(1), &[3, 3], &[1]);
-    feed_row(&held(1), &[], &[1]);
-    feed_row(&Run { over: true, ..held(5) }, &[9, 9], &whole);
-    feed_row(&Run { over: true, ..held(0) }, &[], &[]);
-    println!("# mainnet");
-    let (_, s) = open(1024, &default_parameters(false));
-    let whole = epoch(&s, quiet(1024));
-    feed_row(&run_at(s), &whole[..3], &whole);
-    feed_row(&Run { filled: 3100, ..run_at(s) }, &whole, &whole[3100..]);
-    feed_row(&Run { filled: 3100, ..run_at(s) }, &whole, &whole[3100..whole.len() - 1]);
-    feed_row(&Run { filled: 3100, ..run_at(s) }, &whole[..3100], &whole[3100..]);
-}
-
-fn print_rows() {
-    println!("# Rows for the calls of archive, printed by rows/archive.rs; docs/VECTORS.md has the form.");
-    damaged_records();
-    long_records();
-    header_rows();
-    open_rows();
-    fault_rows();
-    chain_rows();
-    bar_rows();
-    mainnet_rows();
-    all_line_rows();
-    all_feed_rows();
-}
-
-// ---- Streams. ----
-
-// Records of epochs on mainnet, each with these votes, and the state after them.
-fn accepted(votes: &[Vec<u8>]) -> (Vec<u8>, State) {
-    let (_, mut s) = open(1024, &default_parameters(false));
+// Records of epochs, each with these votes, and the state after them.
+fn accepted(mut s: State, votes: &[Vec<u8>]) -> (Vec<u8>, State) {
     let mut out = vec![];
     for v in votes {
         let rec = epoch(&s, v.clone());
@@ -532,6 +482,172 @@ fn accepted(votes: &[Vec<u8>]) -> (Vec<u8>, State) {
     }
     (out, s)
 }
+
+fn run_at(state: State) -> Run {
+    Run { state, accepted: 0, filled: 0, over: false }
+}
+
+// As many cells as the settings need at least, the first of them these.
+fn cells_for(s: &State, first: &[u8]) -> Vec<u8> {
+    let mut cells = first.to_vec();
+    cells.resize(cells_least(&s.settings), 0);
+    cells
+}
+
+// An input fed in pieces of a size, with outputs of a size, and the last line. All that is written is what the input gives that is read whole.
+fn drive_rows(s: State, input: &[u8], size: usize, room: usize, mut cells: Vec<u8>) {
+    let mut r = run_at(s);
+    let mut text = String::new();
+    for mut piece in input.chunks(size) {
+        while !piece.is_empty() {
+            let f = run_row(FEED, &r, &cells, room, piece);
+            assert!(f.refusal == 0 && f.used > 0);
+            piece = &piece[f.used..];
+            (r, cells) = (f.run, f.cells);
+            text += &f.text;
+        }
+    }
+    text += &run_row(FINISH, &r, &cells, room, &[]).text;
+    assert_eq!(text, lines_from(s, input));
+}
+
+fn feed_rows() {
+    let s = round_state();
+    let cells = || cells_for(&s, &[]);
+    let (input, next) = accepted(s, &[voted(4, 4, [120, 0, 0]), quiet(4), voted(4, 3, [1, 0, 0]), quiet(4), quiet(4)]);
+    let (one, _) = accepted(s, &[quiet(4)]);
+    let cut = [&input[..], &epoch(&next, quiet(4))[..8]].concat();
+    println!("# pieces of several sizes, and outputs for one line and for more");
+    for (size, room) in [(1000, 1000), (1000, 100), (1000, 64), (1000, 47), (140, 64), (70, 50)] {
+        drive_rows(s, &cut, size, room, cells());
+    }
+    drive_rows(s, &one, 11, 100, cells());
+    println!("# the most cells and the longest output; cells that were used before");
+    drive_rows(s, &input, 300, 4096, vec![0; 65536]);
+    drive_rows(s, &one, 100, 50, cells_for(&s, &[0xa5; 150]));
+    println!("# an output that is full with one line");
+    let mut wide = state(SHORT, 2147483640);
+    wide.table[9..].fill(Some(i32::MIN));
+    let (long, _) = accepted(wide, &[quiet(4)]);
+    assert_eq!(lines_from(wide, &long).find('\n'), Some(LINE_MOST - 1));
+    drive_rows(wide, &[&long[..], &[0]].concat(), 1000, LINE_MOST, cells());
+    println!("# epochs without headers");
+    let none = state(settings(0, 3, 2, 0), 4096);
+    drive_rows(none, &epoch(&none, vec![]), 1000, 64, cells_for(&none, &[]));
+}
+
+// Another tag, another length of the height, a record of another height, and a record that is refused by 15.
+fn ending_rows() {
+    let s = round_state();
+    let (one, next) = accepted(s, &[quiet(4)]);
+    let mut other = Epoch::new(next, quiet(4)).with_body();
+    let at = field_start(&other.body, 1);
+    other.body[at + 6] ^= 1;
+    println!("# what ends the reading, and bytes behind it");
+    for bad in [&[2][..], &[1, 0, 5], &one, &other.bytes()] {
+        let rest = [bad, &[1, 0, 4, 0]].concat();
+        drive_rows(s, &[&one[..], &rest].concat(), 1000, 100, cells_for(&s, &[]));
+        drive_rows(next, &rest, 1000, 47, cells_for(&s, &one));
+    }
+}
+
+// An output or cells one too few, or none; more bytes held than there are cells, settings that no cells are enough for; after the end.
+fn refused_rows() {
+    println!("# edges: outputs and cells that are too short");
+    let s = round_state();
+    let least = cells_least(&SHORT);
+    let held = |filled| Run { filled, accepted: 3, ..run_at(s) };
+    let mut endless = held(0);
+    endless.state.settings.length = u32::MAX;
+    for (r, n, room) in [
+        (held(2), least, 46),
+        (held(2), least - 1, 47),
+        (held(0), 0, 0),
+        (held(least + 1), least, 47),
+        (endless, 65536, 4096),
+        (Run { over: true, ..held(0) }, least, 46),
+    ] {
+        let mut cells = vec![0; n];
+        cells.iter_mut().zip([1, 0]).for_each(|(cell, b)| *cell = b);
+        for what in [FEED, FINISH, FAIL] {
+            assert_eq!(run_row(what, &r, &cells, room, &[4, 0]).refusal, 21);
+        }
+    }
+}
+
+// Runs that hold what no call leaves: a whole record, more than one, bytes that begin none. And the count at its end, and after the end.
+fn held_rows() {
+    println!("# edges: what is held is whole, or more, or malformed; the count at its end; after the end");
+    let s = round_state();
+    let (whole, next) = accepted(s, &[quiet(4)]);
+    let two = [&whole[..], &epoch(&next, quiet(4))].concat();
+    let size = whole.len();
+    let cells = cells_for(&s, &two);
+    let held = |filled| Run { filled, accepted: u32::MAX, ..run_at(s) };
+    for piece in [&[][..], &[1], &[1, 0], &[1, 0, 4], &two[size..]] {
+        run_row(FEED, &held(size), &cells, 64, piece);
+    }
+    run_row(FEED, &held(size - 1), &cells, 64, &[0]);
+    run_row(FEED, &held(size - 1), &cells, 64, &[0, 2]);
+    run_row(FEED, &held(size - 1), &cells, 47, &two[size - 1..]);
+    for (filled, room) in [(size + 1, 47), (size + 1, 100), (cells.len(), 64)] {
+        run_row(FEED, &held(filled), &cells, room, &[1, 0, 4]);
+    }
+    let none = cells_for(&s, &[3, 3]);
+    for (piece, room) in [(&[][..], 47), (&[1], 47), (&[1, 0], 47), (&[1, 0], 100)] {
+        run_row(FEED, &held(1), &none, room, piece);
+    }
+    for (filled, piece) in [(0, &[][..]), (0, &[1]), (5, &whole)] {
+        run_row(FEED, &Run { over: true, ..held(filled) }, &none, 47, piece);
+    }
+}
+
+// After nothing, inside a record, with a whole record held, at the end of the count, after the end; bytes that are not looked at.
+fn last_rows() {
+    println!("# the last line");
+    let s = round_state();
+    let (whole, next) = accepted(s, &[quiet(4)]);
+    let cells = cells_for(&next, &whole);
+    let after = |accepted, filled| Run { accepted, filled, ..run_at(next) };
+    for what in [FINISH, FAIL] {
+        run_row(what, &run_at(s), &cells_for(&s, &[]), 1000, &[]);
+        for (accepted, filled) in [(1, 0), (1, 1), (12, whole.len() - 1), (12, whole.len()), (u32::MAX, cells.len())] {
+            run_row(what, &after(accepted, filled), &cells, 47, &[]);
+        }
+        run_row(what, &after(1, 0), &cells, 64, &[1, 0, 4]);
+        run_row(what, &Run { over: true, ..after(1, 0) }, &cells, 47, &[]);
+        run_row(what, &Run { over: true, ..after(u32::MAX, 5) }, &cells, 100, &[1]);
+    }
+}
+
+fn mainnet_run_rows() {
+    println!("# mainnet");
+    let (_, s) = open(1024, &default_parameters(false));
+    let cells = cells_for(&s, &[]);
+    run_row(FEED, &run_at(s), &cells, 47, &epoch(&s, quiet(1024)));
+    run_row(FEED, &run_at(s), &cells[1..], 47, &[1, 0, 4]);
+}
+
+fn print_rows() {
+    println!("# Rows for the calls of archive and stream, printed by rows/archive.rs; docs/VECTORS.md has the form.");
+    damaged_records();
+    long_records();
+    header_rows();
+    open_rows();
+    fault_rows();
+    chain_rows();
+    bar_rows();
+    mainnet_rows();
+    all_line_rows();
+    feed_rows();
+    ending_rows();
+    refused_rows();
+    held_rows();
+    last_rows();
+    mainnet_run_rows();
+}
+
+// ---- Streams. ----
 
 // A round that is not approved and closes where another opens, with ordinary votes beside it.
 fn round() -> Vec<Vec<u8>> {
@@ -550,7 +666,8 @@ fn write_stream(folder: &str, name: &str, records: &[u8], lines: &str) {
 
 fn write_streams(folder: &str) {
     let stream = |name: &str, records: &[u8]| write_stream(folder, name, records, &printed(records));
-    let (one, after_one) = accepted(&[quiet(1024)]);
+    let (_, start) = open(1024, &default_parameters(false));
+    let (one, after_one) = accepted(start, &[quiet(1024)]);
     assert_eq!(printed(&one), "height version start votes\n1024 1 - -\nend 1 0\n");
     let next = epoch(&after_one, quiet(1024));
     stream("rules_none", &[]);
@@ -559,7 +676,7 @@ fn write_streams(folder: &str) {
     stream("rules_cut_tag", &[&one[..], &next[..1]].concat());
     stream("rules_height", &[&one[..], &one[..], &next[..]].concat());
     stream("rules_tag", &[&one[..], &[4], &next[..]].concat());
-    stream("rules_round", &accepted(&round()).0);
+    stream("rules_round", &accepted(start, &round()).0);
     let mut long = Epoch::new(after_one, quiet(1024)).with_body();
     long.body.resize(BODY_MOST, 0xee);
     let (refusal, _, after_long) = replay(&after_one, &long.bytes());

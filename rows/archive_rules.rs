@@ -156,12 +156,21 @@ pub struct Run {
     pub over: bool,
 }
 
+// A refusal or 0, the run and its cells after a call, how many bytes of the piece were taken, and what was written.
 pub struct Fed {
     pub refusal: u8,
     pub run: Run,
     pub used: usize,
     pub text: String,
     pub cells: Vec<u8>,
+}
+
+// The longest line has so many bytes.
+pub const LINE_MOST: usize = 47;
+
+// Cells for the longest record: its heads and the height have 13 bytes.
+pub fn cells_least(s: &Settings) -> usize {
+    13 + BODY_MOST + votes_size(s)
 }
 
 fn accepts(r: &Run, height: u32, state: State) -> (Run, String) {
@@ -185,31 +194,70 @@ fn after_bytes(r: &Run, bytes: &[u8]) -> (Run, String) {
     }
 }
 
-pub fn feed(r: &Run, cells: &[u8], piece: &[u8]) -> Fed {
-    let unfed = |refusal, used| Fed { refusal, run: *r, used, text: String::new(), cells: cells.to_vec() };
-    if r.over {
-        return unfed(0, piece.len());
-    }
-    let Some(held) = cells.get(..r.filled) else { return unfed(21, 0) };
-    let missing = match read_record(held, votes_size(&r.state.settings)) {
-        RecordAt::Short(n) => n,
-        _ => 0,
-    };
-    let used = missing.min(piece.len());
-    let filled = r.filled + used;
-    if cells.len() < filled {
-        return unfed(21, 0);
-    }
-    let mut after = cells.to_vec();
-    after[r.filled..filled].copy_from_slice(&piece[..used]);
-    let (run, text) = after_bytes(r, &after[..filled]);
-    Fed { refusal: 0, run, used, text, cells: after }
+// Nothing taken, and nothing written: 21 where the output or the cells are too few.
+fn untouched(r: &Run, cells: &[u8], room: usize) -> Fed {
+    let short = room < LINE_MOST || cells.len() < cells_least(&r.state.settings) || cells.len() < r.filled;
+    Fed { refusal: if short { 21 } else { 0 }, run: *r, used: 0, text: String::new(), cells: cells.to_vec() }
 }
 
-// What is printed for an input, read record by record.
-pub fn printed(input: &[u8]) -> String {
-    let (_, mut state) = open(1024, &default_parameters(false));
-    let mut text = HEAD_LINE.to_string();
+impl Fed {
+    // Takes bytes of a piece, of one record at most; after the end all of them.
+    fn take(&mut self, piece: &[u8]) {
+        let r = self.run;
+        if r.over {
+            self.used += piece.len();
+            return;
+        }
+        let missing = match read_record(&self.cells[..r.filled], votes_size(&r.state.settings)) {
+            RecordAt::Short(n) => n,
+            _ => 0,
+        };
+        let used = missing.min(piece.len());
+        let filled = r.filled + used;
+        self.cells[r.filled..filled].copy_from_slice(&piece[..used]);
+        let (run, text) = after_bytes(&r, &self.cells[..filled]);
+        self.run = run;
+        self.used += used;
+        self.text += &text;
+    }
+}
+
+// Bytes of a piece, as long as there are any and a line finds room; in no more turns than the piece has bytes, which stops no run but one that
+// holds a whole record or bytes that begin none.
+pub fn feed(r: &Run, cells: &[u8], piece: &[u8], room: usize) -> Fed {
+    let mut fed = untouched(r, cells, room);
+    if fed.refusal != 0 {
+        return fed;
+    }
+    for _ in 0..piece.len() {
+        if fed.used < piece.len() && fed.text.len() + LINE_MOST <= room {
+            fed.take(&piece[fed.used..]);
+        }
+    }
+    fed
+}
+
+fn last(r: &Run, cells: &[u8], room: usize, refusal: u8) -> Fed {
+    let mut fed = untouched(r, cells, room);
+    if fed.refusal == 0 && !r.over {
+        (fed.run, fed.text) = ends(r, refusal);
+    }
+    fed
+}
+
+// The end of the input, which stops inside a record where bytes are held.
+pub fn finish(r: &Run, cells: &[u8], room: usize) -> Fed {
+    last(r, cells, room, if r.filled == 0 { 0 } else { 25 })
+}
+
+// An input that can't be read on.
+pub fn fail(r: &Run, cells: &[u8], room: usize) -> Fed {
+    last(r, cells, room, 25)
+}
+
+// What is printed for an input after the first line, read record by record from a state on.
+pub fn lines_from(mut state: State, input: &[u8]) -> String {
+    let mut text = String::new();
     let (mut at, mut accepted) = (0, 0);
     while at < input.len() {
         let RecordAt::Whole(p) = read_record(&input[at..], votes_size(&state.settings)) else { return text + &end_line(accepted, 25) };
@@ -223,4 +271,10 @@ pub fn printed(input: &[u8]) -> String {
         text += &epoch_line(p.height, &fork_of(&state.table));
     }
     text + &end_line(accepted, 0)
+}
+
+// What program `replay` prints for an input.
+pub fn printed(input: &[u8]) -> String {
+    let (_, state) = open(1024, &default_parameters(false));
+    HEAD_LINE.to_string() + &lines_from(state, input)
 }

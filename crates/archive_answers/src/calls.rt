@@ -1,4 +1,4 @@
-// What each call of archive answers, as bytes.
+// What each call of archive and stream answers, as bytes.
 use crate::line_calls;
 use crate::record_calls;
 use crate::replay_calls;
@@ -16,7 +16,7 @@ pub fn answer_of(call: u8, s: &[u8], out: &mut [u8]) -> usize {
         0x3e => line_calls::write_head(s, out),
         0x3f => line_calls::write_epoch(s, out),
         0x40 => line_calls::write_end(s, out),
-        0x41 => run_calls::feed(s, out),
+        0x41 => run_calls::call(s, out),
         _ => bytes::NO_ANSWER,
     }
 }

@@ -1,4 +1,4 @@
-// The calls of archive on bytes: docs/VECTORS.md has their numbers, and what stands where in an input and in an answer.
+// The calls of archive and stream on bytes: docs/VECTORS.md has their numbers, and what stands where in an input and in an answer.
 pub mod calls;
 mod line_calls;
 mod record_calls;

@@ -1,9 +1,9 @@
 // The calls that write lines, each on bytes: docs/VECTORS.md has what stands where in a call's input and in its answer. A writer's cells
 // are put into the answer behind five bytes, and lent to it there.
-use archive::lines;
 use rows::bytes;
 use rows::bytes::NO_ANSWER;
 use rows::values;
+use stream::lines;
 
 fn head_into(out: &mut [u8], end: usize) -> usize {
     if out.len() < end {

@@ -10,7 +10,7 @@ replay::Replay::replay
 lines::write_head
 lines::write_epoch
 lines::write_end
-run::feed
+run::feed, finish, fail
 ";
     run::print_counts(counts, 0x3a, names);
 }

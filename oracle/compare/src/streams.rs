@@ -8,34 +8,42 @@ use crate::report::Report;
 
 const TIMES: usize = 300;
 
-/// Cells for the longest record.
-const CELLS: usize = 36_000;
+/// Cells for mainnet's longest record.
+const CELLS: usize = 35_853;
+
+/// How many bytes an output has: from the least that is enough to the most that the call takes.
+const OUTPUTS: [usize; 5] = [47, 64, 100, 1_000, 4_096];
 
 const RUN: usize = 104;
 
+/// What call 41 is asked for.
+const FEED: u8 = 0;
+const FINISH: u8 = 1;
+
 pub fn run(random: &mut Random) -> Report {
     let mut report = Report::default();
-    for _ in 0..TIMES {
+    for i in 0..TIMES {
         let input = stream(random);
         let pieces = random.pick(&[7, 100, 1_021, 3_300, 65_536]);
-        report.compare_texts(&input, &replay_stream(&input), &printed(&input, pieces));
+        let printed = printed(&input, pieces, OUTPUTS[i % OUTPUTS.len()]);
+        report.compare_texts(&input, &replay_stream(&input), &printed);
     }
     report
 }
 
-/// A run, its cells, and what it has printed.
+/// A run, its cells up to the last that is not 0, how many bytes its outputs have, and what it has printed.
 struct Going {
     run: Vec<u8>,
     cells: Vec<u8>,
+    output: usize,
     text: Vec<u8>,
     out: Vec<u8>,
 }
 
-fn printed(input: &[u8], pieces: usize) -> Vec<u8> {
-    let mut going = Going { run: begun(), cells: vec![0; CELLS], text: Vec::new(), out: vec![0; 0x2_0000] };
-    going.write(0x3e, &[]);
+fn printed(input: &[u8], pieces: usize, output: usize) -> Vec<u8> {
+    let mut going = Going { run: begun(), cells: Vec::new(), output, text: head(), out: vec![0; 0x2_0000] };
     input.chunks(pieces).for_each(|piece| going.feed_all(piece));
-    going.end();
+    going.call(FINISH, &[]);
     going.text
 }
 
@@ -47,49 +55,56 @@ fn begun() -> Vec<u8> {
     [&replay.0[..], &[0; 9]].concat()
 }
 
-fn count(bytes: &[u8]) -> usize {
-    u32::from_be_bytes(bytes[..4].try_into().expect("four bytes")) as usize
+/// The first line.
+fn head() -> Vec<u8> {
+    let mut out = [0; 64];
+    let answer = ergo_voting::answer(0x3e, &[0; 32], &mut out).expect("a line");
+    assert_eq!(answer[0], 0, "a line fits");
+    let (size, line) = count(&answer[1..]);
+    line[..size].to_vec()
+}
+
+/// A count, and what follows it.
+fn count(bytes: &[u8]) -> (usize, &[u8]) {
+    let (first, rest) = bytes.split_first_chunk().expect("four bytes");
+    (u32::from_be_bytes(*first) as usize, rest)
+}
+
+/// A text, and what follows it.
+fn text(bytes: &[u8]) -> (&[u8], &[u8]) {
+    let (size, rest) = count(bytes);
+    rest.split_at(size)
+}
+
+fn bytes_of(count: usize) -> [u8; 4] {
+    (count as u32).to_be_bytes()
 }
 
 impl Going {
-    /// The line of a call that writes.
-    fn write(&mut self, call: u8, input: &[u8]) {
-        let input = [input, &[0; 64]].concat();
-        let answer = ergo_voting::answer(call, &input, &mut self.out).expect("a line");
-        assert_eq!(answer[0], 0, "a line fits");
-        self.text.extend(&answer[5..5 + count(&answer[1..])]);
-    }
-
     fn feed_all(&mut self, piece: &[u8]) {
         let mut rest = piece;
         while !rest.is_empty() {
-            let used = self.feed(rest);
+            let used = self.call(FEED, rest);
+            assert!(used > 0, "a run takes bytes");
             rest = &rest[used..];
         }
     }
 
     /// How many bytes were taken.
-    fn feed(&mut self, piece: &[u8]) -> usize {
-        let size = (CELLS as u32).to_be_bytes();
-        let input = [&self.run, &size[..], &self.cells, piece].concat();
+    fn call(&mut self, what: u8, piece: &[u8]) -> usize {
+        let [cells, given, output] = [CELLS, self.cells.len(), self.output].map(bytes_of);
+        let input = [&[what], &self.run[..], &cells, &given, &self.cells, &output, piece].concat();
         let answer = ergo_voting::answer(0x41, &input, &mut self.out).expect("an answer of a run");
-        assert_eq!(answer[0], 0, "the cells are enough");
+        assert_eq!(answer[0], 0, "the cells and the output are enough");
         let (run, rest) = answer[1..].split_at(RUN);
-        let (used, rest) = (count(rest), &rest[4..]);
-        let (text, cells) = rest[4..].split_at(count(rest));
+        let (used, rest) = count(rest);
+        let (wrote, rest) = count(rest);
+        let (written, rest) = text(rest);
+        let (cells, _) = text(rest);
+        assert_eq!(wrote, written.len(), "a line ends in a newline");
         self.run = run.to_vec();
-        self.text.extend(text);
+        self.text.extend(written);
         self.cells = cells.to_vec();
-        assert!(used > 0, "a run takes bytes");
         used
-    }
-
-    /// The last line, where the run is not over: 25 where bytes of a record are left.
-    fn end(&mut self) {
-        if self.run[103] == 0 {
-            let refusal = if count(&self.run[99..]) == 0 { 0 } else { 25 };
-            let end = [&self.run[95..99], &[refusal]].concat();
-            self.write(0x40, &end);
-        }
     }
 }
