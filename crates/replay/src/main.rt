@@ -17,6 +17,7 @@ fn run(descriptor: u32) {
 fn run_file(path: &[u8]) {
     let descriptor = os::open_read(path);
     if descriptor < 0 {
+        io::write_all(libc::STDERR_FILENO, b"replay: ");
         os::fail(path);
         return;
     }

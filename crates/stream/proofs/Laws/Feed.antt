@@ -77,6 +77,16 @@ module _ (room : ℕ) (r : Run) (cells piece : List ℕ) (y : Ready r cells) (so
   x : Goes r cells piece f after
   x = record-goes r cells piece y some
 
+  -- nothing of what is to be printed is lost
+  turn-on : (a : After) → Feeds (f .run) after (drop (f .used) piece) (room - length t) a → (more : List ℕ)
+      → ahead r cells (piece ++ more) ≡ behind (f .used) t a .text ++ ahead (a .run) (a .cells) (drop (f .used + a .used) piece ++ more)
+  unfolding behind
+  turn-on a p more =
+      x .goes-on more
+      ∙ ap (λ (z : List ℕ). t ++ z) (p .goes-on more)
+      ∙ sym (append-assoc t (a .text) (ahead (a .run) (a .cells) (drop (a .used) (drop (f .used) piece) ++ more)))
+      ∙ ap (λ (z : List ℕ). t ++ a .text ++ ahead (a .run) (a .cells) (z ++ more)) (drop-drop (a .used) (f .used) piece)
+
   turn-goes : (a : After) → Feeds (f .run) after (drop (f .used) piece) (room - length t) a → Feeds r cells piece room (behind (f .used) t a)
   unfolding behind
   turn-goes a p =
@@ -91,11 +101,7 @@ module _ (room : ℕ) (r : Run) (cells piece : List ℕ) (y : Ready r cells) (so
         moves = λ h g. omega (arith, m);
         fits = omega (arith, p .fits, w, short, place);
         most = λ h. let g = p .most (omega (arith, h, d)) in omega (arith, g, w);
-        goes-on = λ more.
-            x .goes-on more
-            ∙ ap (λ (z : List ℕ). t ++ z) (p .goes-on more)
-            ∙ sym (append-assoc t (a .text) (ahead (a .run) (a .cells) (drop (a .used) (drop (f .used) piece) ++ more)))
-            ∙ ap (λ (z : List ℕ). t ++ a .text ++ ahead (a .run) (a .cells) (z ++ more)) (drop-drop (a .used) (f .used) piece);
+        goes-on = turn-on a p;
         ready = p .ready;
       }
 
@@ -366,9 +372,9 @@ module _ (r : Run) (cells : List ℕ) (n : ℕ) (out : List ℕ) (b : Bool) (is-
 
 -- the end means all that is left to print
 module _ (r : Run) (cells : List ℕ) (room : ℕ) where
-  finish-by : Ready r cells → lineMost ≤ room → lastBy r cells (cond (eqb (r .filled) 0) 0 recordMalformed) ≡ finishOf r cells room
+  last-is : Ready r cells → lineMost ≤ room → (n : ℕ) → lastBy r cells n ≡ lastOf r cells n room
   unfolding lastOf
-  finish-by y h = cond-no (tooShort r (length cells) room) _ _ (ready-enough r cells room y h)
+  last-is y h n = cond-no (tooShort r (length cells) room) _ _ (ready-enough r cells room y h)
 
   over-ends : r .over ≡ true → Ends r cells room (stands 0 r cells)
   over-ends o = record { passes = refl; fits = omega arith; is-over = o; all = ahead-over r cells [] o }
@@ -394,12 +400,11 @@ module _ (r : Run) (cells : List ℕ) (room : ℕ) where
 
   -- an input that can't be read on
   pub fail-line : Ready r cells → lineMost ≤ room → r .over ≡ false → failOf r cells room .text ≡ endLine (r .accepted) recordMalformed
-  unfolding lastOf lastBy
-  fail-line y h o =
-      ap (λ (a : After). a .text) (sym (cond-no (tooShort r (length cells) room) _ _ (ready-enough r cells room y h)) ∙ sym (cond-no (r .over) _ _ o))
+  unfolding lastBy
+  fail-line y h o = ap (λ (a : After). a .text) (sym (last-is y h recordMalformed) ∙ sym (cond-no (r .over) _ _ o))
 
   pub finishes : Ready r cells → lineMost ≤ room → Ends r cells room (finishOf r cells room)
-  finishes y h = subst (Ends r cells room) (finish-by y h) (by (r .over) refl)
+  finishes y h = subst (Ends r cells room) (last-is y h (cond (eqb (r .filled) 0) 0 recordMalformed)) (by (r .over) refl)
     where
       by : (b : Bool) → r .over ≡ b → Ends r cells room (lastBy r cells (cond (eqb (r .filled) 0) 0 recordMalformed))
       by true o = unfold lastBy in (subst (Ends r cells room) (cond-yes (r .over) _ _ o) (over-ends o))

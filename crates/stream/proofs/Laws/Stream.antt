@@ -37,10 +37,19 @@ pub record Lawful (at : List ℕ → At) : Type 0 where
   pub short-some : (s : List ℕ) (k : ℕ) → short k ≡ at s → 0 < k
 
 module _ {S : Type 0} (at : List ℕ → At) (law : Lawful at) (step : S → List ℕ → Step S) where
-  -- the number that bounds the records is of no account
   abbrev from : ℕ → S → ℕ → List ℕ → List ℕ
   from = printedFrom at step
 
+  abbrev left : S → ℕ → List ℕ → List ℕ
+  left = printedAfter at step
+
+  -- by the record that the input begins with
+  left-some : (s : S) (n : ℕ) (input : List ℕ) → 0 < length input → left s n input ≡ afterAt at step (at input) s n (from (length input)) input
+  unfolding printedFrom
+  left-some s n [] h = absurd (omega arith)
+  left-some s n (b ∷ input) h = refl
+
+  -- the number that bounds the records is of no account
   abbrev Same : ℕ → ℕ → Type 0
   Same k j = (s : S) (n : ℕ) (input : List ℕ) → length input < k → length input < j → from k s n input ≡ from j s n input
 
@@ -70,14 +79,6 @@ module _ {S : Type 0} (at : List ℕ → At) (law : Lawful at) (step : S → Lis
   same (suc k) zero s n input h g = absurd (omega arith)
   same (suc k) (suc j) s n [] h g = refl
   same (suc k) (suc j) s n (b ∷ input) h g = same-at k j (same k j) (at (b ∷ input)) s n (b ∷ input) refl (omega arith) (omega arith)
-
-  abbrev left : S → ℕ → List ℕ → List ℕ
-  left = printedAfter at step
-
-  left-some : (s : S) (n : ℕ) (input : List ℕ) → 0 < length input → left s n input ≡ afterAt at step (at input) s n (from (length input)) input
-  unfolding printedFrom
-  left-some s n [] h = absurd (omega arith)
-  left-some s n (b ∷ input) h = refl
 
   -- the end of the input: after a record, and inside one
   pub left-none : (s : S) (n : ℕ) → left s n [] ≡ endLine n 0
