@@ -26,7 +26,7 @@ use Rattle.stream.proofs.Laws.Added.{never, written-is, front-is}
 use Rattle.stream.proofs.Laws.Run.{ahead-over}
 use Rattle.stream.proofs.Laws.Feed.{end-line, fail-line, finishes}
 use Rattle.replay_io.specs.declared.Done.{Done}
-use Rattle.replay_io.specs.Replays.{Begun, Broken, Replays, Feeding, Reading}
+use Rattle.replay_io.specs.Replays.{Begun, Broken, Replays, most, Feeding, Reading}
 
 -- ---- a text that was written into the buffer and is handed over
 
@@ -325,7 +325,7 @@ module _ (from to : ℕ) (r : Run) (cells : List ℕ) (i : Input) (o : Output) (
 
 -- ---- the buffers
 
-pub arrays-long : (cells buf out : List ℕ) (piece room : ℕ) → length cells ≡ 35853 → length buf ≡ 65536 → length out ≡ 65536 → (piece ≤ 65536) × (room ≤ 65536) × (lineMost ≤ room)
+pub arrays-long : (cells buf out : List ℕ) (piece room : ℕ) → length cells ≡ 35853 → length buf ≡ most → length out ≡ most → (piece ≤ most) × (room ≤ most) × (lineMost ≤ room)
     → (longestRecord mainnet ≤ length cells) × (piece ≤ length buf) × (room ≤ length out) × (lineMost ≤ room)
 unfolding mainnet
 arrays-long cells buf out piece room a b c h = (omega (arith, a), omega (arith, b, h .0), omega (arith, c, h .1), h .2)
@@ -339,7 +339,7 @@ module _ (piece room : ℕ) (b : Bool) (is-b : b ≡ (eqb piece 0 || ltb room li
       go false true q r = absurd (true≢false r)
       go true y q r = absurd (true≢false r)
 
-  pub parts-long : b ≡ false → (m n : ℕ) → m ≡ min piece 65536 → n ≡ min room 65536 → (m ≤ 65536) × (n ≤ 65536) × (lineMost ≤ n)
+  pub parts-long : b ≡ false → (m n : ℕ) → m ≡ min piece most → n ≡ min room most → (m ≤ most) × (n ≤ most) × (lineMost ≤ n)
   parts-long e m n p q = let l = room-long e in (omega (arith, p), omega (arith, q), omega (arith, q, l))
 
 pub answered : (from to piece room : ℕ) (b : Bool) → b ≡ (eqb piece 0 || ltb room lineMost) → (v : Bool) → b ≡ v → (d : Done) → Replays from to d × (d .refusal ≡ cond v outputShort 0)

@@ -45,6 +45,10 @@ pub record Replays (from to : ℕ) (d : Done) : Type 0 where
 
 -- ---- on the way
 
+-- no read and no write is of more bytes
+abbrev pub most : ℕ
+most = 65536
+
 -- the part `[0..n]`, as a call has it
 abbrev pub front : ℕ → List ℕ → List ℕ
 front n l = take (n - 0) l

@@ -18,7 +18,7 @@ ghost use Rattle.voting.specs.Settings.{mainnet};
 ghost use Rattle.ports.specs.Ports.{wrote};
 ghost use Rattle.stream.specs.Lines.{headLine, lineMost};
 ghost use Rattle.stream.specs.Run.{longestRecord, Ready, finishOf, failOf};
-ghost use Rattle.replay_io.specs.Replays.{front, Feeding, Reading, Replays};
+ghost use Rattle.replay_io.specs.Replays.{most, front, Feeding, Reading, Replays};
 
 // No read and no write is of more bytes.
 pub const MOST: usize = 0x1_0000;
@@ -115,7 +115,7 @@ fn replay_in(
     piece: usize,
     room: usize,
 ) -> Done
-    requires { ⌜ (piece ≤ 65536) × (room ≤ 65536) × (lineMost ≤ room) ⌝ }
+    requires { ⌜ (piece ≤ most) × (room ≤ most) × (lineMost ≤ room) ⌝ }
     ensures { λ r. ⌜ Replays from to r × (r .refusal ≡ 0) ⌝ }
 {
     replay_by(from, to, cells, buf, out, piece, room)

@@ -4,9 +4,9 @@
 use codec::signed;
 use rows::bytes;
 
-// What is written goes into a file that has no name.
+// What is written goes into a file of the folder that it runs in, whose name is taken away at once.
 fn open_output() -> i32 {
-    let mut name = *b"/tmp/replay_streams.XXXXXX";
+    let mut name = *b"replay_streams.XXXXXX";
     let fd = os::create_temp(&mut name);
     if fd < 0 {
         os::fail(b"replay_streams");
