@@ -2,6 +2,10 @@
 // library `replay_io`.
 use codec::signed;
 
+const STANDARD_INPUT: u32 = 0;
+
+const STANDARD_OUTPUT: u32 = 1;
+
 // Six lines.
 fn tell(descriptor: i32) {
     io::write_all(
@@ -11,7 +15,12 @@ fn tell(descriptor: i32) {
 }
 
 fn run(descriptor: u32) {
-    replay_io::replay(descriptor, 1, replay_io::MOST, replay_io::MOST);
+    replay_io::replay(
+        descriptor,
+        STANDARD_OUTPUT,
+        replay_io::MOST,
+        replay_io::MOST,
+    );
 }
 
 fn run_file(path: &[u8]) {
@@ -44,7 +53,7 @@ fn run_word(word: &[u8]) {
 fn main() {
     let words = os::arg_count();
     if words <= 1 {
-        run(0);
+        run(STANDARD_INPUT);
         return;
     }
     if 2 < words {
