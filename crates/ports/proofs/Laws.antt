@@ -1,20 +1,39 @@
 -- The calls. Assumes nothing.
-use mathlib.Core.Path.{_≡_, refl, sym, ap, subst, _∙_}
-use mathlib.Core.Bool.{Bool, true, false, true≢false}
+use mathlib.Core.Path.{_≡_, sym, ap, subst, _∙_}
+use mathlib.Core.Bool.{Bool, true, false}
 use mathlib.Core.List.{List}
+use Prim.Native.Nat.{ℕ, _≤_}
 use native.Mathlib.Omega.{arith}
-use Prim.Native.Nat.{ℕ, _+_, _%_, _^_, _≤_}
+use borrow.Author.Tests.{ne-eqb}
 use lib.ListN.{length, take}
 use Rattle.ports.specs.declared.Input.{Input}
+use Rattle.ports.specs.declared.Output.{Output}
 use Rattle.ports.specs.declared.Came.{Came}
-use Rattle.ports.specs.Ports.{read, readBy, read-is}
+use Rattle.ports.specs.declared.Sent.{Sent}
+use Rattle.ports.specs.Ports.{readBy, stoppedBy, came, wrote, handedBy, sent, read-is, ended-is, broken-is, wrote-is, cut-is}
 
 abbrev Received : Input → List ℕ → Came → Type 0
-Received i buf c = ((c .count ≤ length buf) × (c .input ≡ read i (take (c .count) buf))) × (c .failed ≡ true → c .count ≡ 0)
+Received i buf c = (c .count ≤ length buf) × (c .input ≡ came (c .failed) (c .count) i (take (c .count) buf))
 
 module _ (i : Input) (buf : List ℕ) (c : Came) where
-  pub received : (n : ℕ) → c ≡ record { input = readBy i n; count = n; failed = false } → (n ≤ length buf) × (n ≡ length (take n buf)) → Received i buf c
-  received n q h = subst (Received i buf) (sym q) ((h .0, read-is i n (take n buf) (h .1)), λ e. absurd (true≢false (sym e)))
+  pub received : (n : ℕ) → c ≡ record { input = readBy i n; count = n; failed = false } → (n ≡ 0 → ⊥) → (n ≤ length buf) × (n ≡ length (take n buf)) → Received i buf c
+  unfolding came
+  received n q some h = subst (Received i buf) (sym q) (h .0, rw (ne-eqb n 0 some) (read-is i n (take n buf) (h .1)))
 
-  pub read-failed : c ≡ record { input = readBy i 0; count = 0; failed = true } → Received i buf c
-  read-failed q = subst (Received i buf) (sym q) ((omega arith, read-is i 0 (take 0 buf) refl), λ e. refl)
+  pub end-met : c ≡ record { input = stoppedBy i 1; count = 0; failed = false } → Received i buf c
+  unfolding came
+  end-met q = subst (Received i buf) (sym q) (omega arith, ended-is i)
+
+  pub read-failed : c ≡ record { input = stoppedBy i 2; count = 0; failed = true } → Received i buf c
+  unfolding came
+  read-failed q = subst (Received i buf) (sym q) (omega arith, broken-is i)
+
+module _ (o : Output) (text : List ℕ) (s : Sent) where
+  abbrev Handed : Sent → Type 0
+  Handed x = x .output ≡ sent (x .failed) (wrote o text)
+
+  pub sent-whole : s ≡ record { output = handedBy o (length text) (o .cut); failed = false } → Handed s
+  sent-whole q = subst Handed (sym q) (wrote-is o text)
+
+  pub write-failed : s ≡ record { output = handedBy o (length text) true; failed = true } → Handed s
+  write-failed q = subst Handed (sym q) (cut-is o text)

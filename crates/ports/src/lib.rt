@@ -1,22 +1,31 @@
 // A descriptor that is read and one that is written, each with a value that stands for the bytes that went through it. Only these calls make
 // such a value.
 ghost use mathlib.Core.Path.{_≡_};
-ghost use mathlib.Core.Bool.{true};
+ghost use mathlib.Core.Bool.{false};
 ghost use Prim.Native.Nat.{_+_, _%_, _^_, _≤_};
 ghost use lib.ListN.{length, take};
-ghost use Rattle.ports.specs.Ports.{unread, unwritten, read, readBy, wrote};
+ghost use Rattle.ports.specs.Ports.{unread, unwritten, readBy, stoppedBy, came, wrote, handedBy, sent};
 
-// All that was read so far: its number of bytes, modulo 2^64.
+// All that was read so far: its number of bytes, modulo 2^64; and how it ended.
 pub struct Input {
     descriptor: u32,
     bytes: u64,
+    end: u8,
 }
 
-// All that was handed over so far: its number of bytes, modulo 2^64.
+// All that was handed over so far: its number of bytes, modulo 2^64; and whether a write failed.
 pub struct Output {
     descriptor: u32,
     bytes: u64,
+    cut: bool,
 }
+
+// How an input ended: not yet, at its end, or by a read that failed.
+const OPEN: u8 = 0;
+
+const ENDED: u8 = 1;
+
+const BROKEN: u8 = 2;
 
 // How many bytes stand at the start of the buffer, 0 at the end of the input; and whether the read failed.
 pub struct Came {
@@ -42,6 +51,7 @@ pub fn no_input(descriptor: u32) -> Input
     Input {
         descriptor,
         bytes: 0,
+        end: OPEN,
     }
 }
 
@@ -51,48 +61,77 @@ pub fn no_output(descriptor: u32) -> Output
     Output {
         descriptor,
         bytes: 0,
+        cut: false,
     }
 }
 
 // Reads once, and again where a signal interrupted it. A read that failed is told on standard error with its cause.
 pub fn receive(input: Input, buf: &mut [u8]) -> Came
-    ensures { λ r. ⌜ (r .count ≤ length (now (buf .exit))) × (r .input ≡ read input (take (r .count) (now (buf .exit)))) ⌝ }
-    ensures failed { λ r. ⌜ (r .failed ≡ true → r .count ≡ 0) ⌝ }
+    ensures { λ r. ⌜ (r .count ≤ length (now (buf .exit))) × (r .input ≡ came (r .failed) (r .count) input (take (r .count) (now (buf .exit)))) ⌝ }
 {
     let got = read_on(input.descriptor, buf);
     if got < 0 {
         os::fail(b"replay: a read failed");
-        return reached(input, 0, true);
+        return stopped(input, BROKEN, true);
     }
-    reached(input, io::count(got, buf), false)
+    let n = io::count(got, buf);
+    if n == 0 {
+        return stopped(input, ENDED, false);
+    }
+    reached(input, n)
 }
 
-fn reached(input: Input, n: usize, failed: bool) -> Came
-    ensures { λ r. ⌜ r ≡ record { input = readBy input n; count = n; failed = failed } ⌝ }
+fn stopped(input: Input, end: u8, failed: bool) -> Came
+    ensures { λ r. ⌜ r ≡ record { input = stoppedBy input end; count = 0; failed = failed } ⌝ }
+{
+    Came {
+        input: Input {
+            descriptor: input.descriptor,
+            bytes: input.bytes,
+            end,
+        },
+        count: 0,
+        failed,
+    }
+}
+
+fn reached(input: Input, n: usize) -> Came
+    ensures { λ r. ⌜ r ≡ record { input = readBy input n; count = n; failed = false } ⌝ }
 {
     let next = counted(input.bytes, n);
     Came {
         input: Input {
             descriptor: input.descriptor,
             bytes: next,
+            end: input.end,
         },
         count: n,
-        failed,
+        failed: false,
     }
 }
 
 // Writes a text whole, or says that a write failed, and tells its cause on standard error.
 pub fn send(output: Output, text: &[u8]) -> Sent
-    ensures { λ r. ⌜ r .output ≡ wrote output (now (text .entry)) ⌝ }
+    ensures { λ r. ⌜ r .output ≡ sent (r .failed) (wrote output (now (text .entry))) ⌝ }
 {
-    let failed = write_on(output.descriptor, text);
-    let next = counted(output.bytes, text.len());
+    if write_on(output.descriptor, text) {
+        os::fail(b"replay: a write failed");
+        return handed(output, text.len(), true, true);
+    }
+    handed(output, text.len(), output.cut, false)
+}
+
+fn handed(output: Output, n: usize, cut: bool, failed: bool) -> Sent
+    ensures { λ r. ⌜ r ≡ record { output = handedBy output n cut; failed = failed } ⌝ }
+{
+    let next = counted(output.bytes, n);
     Sent {
         output: Output {
             descriptor: output.descriptor,
             bytes: next,
+            cut,
         },
-        failed: told(failed, b"replay: a write failed"),
+        failed,
     }
 }
 
@@ -100,14 +139,6 @@ fn counted(before: u64, n: usize) -> u64
     ensures { λ r. ⌜ r ≡ (before + n) % 2 ^ 64 ⌝ }
 {
     std::num::wrapping_add_u64(before, n as u64)
-}
-
-// Says what failed, with the cause; just after the call that failed.
-fn told(failed: bool, what: &[u8]) -> bool {
-    if failed {
-        os::fail(what);
-    }
-    failed
 }
 
 fn interrupted(got: isize) -> bool {

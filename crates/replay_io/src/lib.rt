@@ -15,7 +15,7 @@ ghost use lib.Dec.{ltb, eqb};
 ghost use lib.ListN.{length};
 ghost use Rattle.codec.specs.Refusal.{outputShort};
 ghost use Rattle.voting.specs.Settings.{mainnet};
-ghost use Rattle.ports.specs.Ports.{wrote};
+ghost use Rattle.ports.specs.Ports.{wrote, sent};
 ghost use Rattle.stream.specs.Lines.{headLine, lineMost};
 ghost use Rattle.stream.specs.Run.{longestRecord, Ready, finishOf, failOf};
 ghost use Rattle.replay_io.specs.Replays.{most, front, Feeding, Reading, Replays};
@@ -23,7 +23,7 @@ ghost use Rattle.replay_io.specs.Replays.{most, front, Feeding, Reading,
 // No read and no write is of more bytes.
 pub const MOST: usize = 0x1_0000;
 
-// What was read and handed over; 21 or 0; whether the end of the input was met, a read failed, a write failed.
+// What was read and handed over; 21 or 0; whether the end of the input was met, a read failed, a write failed, or the input is too long.
 pub struct Done {
     pub input: Input,
     pub output: Output,
@@ -31,6 +31,7 @@ pub struct Done {
     pub ended: bool,
     pub read_failed: bool,
     pub write_failed: bool,
+    pub too_long: bool,
 }
 
 struct Passed {
@@ -89,19 +90,28 @@ fn unmoved(from: u32, to: u32) -> Done
         ended: false,
         read_failed: false,
         write_failed: false,
+        too_long: false,
     }
 }
 
-fn ended(input: Input, output: Output, at_end: bool, read_failed: bool, write_failed: bool) -> Done
-    ensures { λ r. ⌜ r ≡ record { input = input; output = output; refusal = 0; ended = «at_end»; «read_failed» = «read_failed»; «write_failed» = «write_failed» } ⌝ }
+fn stopped(
+    input: Input,
+    output: Output,
+    ended: bool,
+    read_failed: bool,
+    write_failed: bool,
+    too_long: bool,
+) -> Done
+    ensures { λ r. ⌜ r ≡ record { input = input; output = output; refusal = 0; ended = ended; «read_failed» = «read_failed»; «write_failed» = «write_failed»; «too_long» = «too_long» } ⌝ }
 {
     Done {
         input,
         output,
         refusal: 0,
-        ended: at_end,
+        ended,
         read_failed,
         write_failed,
+        too_long,
     }
 }
 
@@ -145,13 +155,13 @@ fn replay_from(from: u32, to: u32, cells: &mut [u8], buf: &mut [u8], out: &mut [
     let sent = send_head(out, ports::no_output(to));
     let output = sent.output;
     if sent.failed {
-        return ended(input, output, false, false, true);
+        return stopped(input, output, false, false, true, false);
     }
     read_all(from, to, run, cells, buf, out, input, output)
 }
 
-// Reads to the end, to the first refusal, or to a read or a write that failed. The turns are counted down from a number that no run uses up:
-// nothing says that an input ends.
+// Reads to the end, to the first refusal, or to a read or a write that failed. The turns are counted down from a number that no run uses up, since
+// nothing says that an input ends; each reads a byte at least.
 fn read_all(
     from: u32,
     to: u32,
@@ -162,7 +172,7 @@ fn read_all(
     input: Input,
     output: Output,
 ) -> Done
-    requires { ⌜ Reading from to run (now cells) input output × (lineMost ≤ length (now out)) ⌝ }
+    requires { ⌜ Reading from to 18446744073709551615 run (now cells) input output × (lineMost ≤ length (now out)) ⌝ }
     ensures { λ r. ⌜ Replays from to r × (r .refusal ≡ 0) ⌝ }
 {
     let mut state = run;
@@ -176,33 +186,31 @@ fn read_all(
         if came.failed {
             let sent = send_fail(state, cells, out, handed);
             let last = sent.output;
-            return ended(got, last, false, true, sent.failed);
+            return stopped(got, last, false, true, sent.failed, false);
         }
         let n = came.count;
         if n == 0 {
             let sent = send_finish(state, cells, out, handed);
             let last = sent.output;
-            return ended(got, last, true, false, sent.failed);
+            return stopped(got, last, true, false, sent.failed, false);
         }
         let passed = feed_piece(state, cells, &buf[0..n], out, handed);
         state = passed.run;
         handed = passed.output;
         if passed.failed {
-            return ended(got, handed, false, false, true);
+            return stopped(got, handed, false, false, true, false);
         }
         if state.over {
-            return ended(got, handed, false, false, false);
+            return stopped(got, handed, false, false, false, false);
         }
     }
-    let sent = send_fail(state, cells, out, handed);
-    let last = sent.output;
-    ended(got, last, false, true, sent.failed)
+    stopped(got, handed, false, false, false, true)
 }
 
 // Feeds a piece, and hands over its lines; stops where a write failed.
 fn feed_piece(run: Run, cells: &mut [u8], piece: &[u8], out: &mut [u8], output: Output) -> Passed
     requires { ⌜ Ready run (now cells) × (lineMost ≤ length (now out)) ⌝ }
-    ensures { λ r. ⌜ Feeding run (now (cells .entry)) (now (piece .entry)) output (r .at) (r .run) (now (cells .exit)) (r .output)
+    ensures { λ r. ⌜ Feeding run (now (cells .entry)) (now (piece .entry)) output (r .at) (r .run) (now (cells .exit)) (r .failed) (r .output)
         × (r .failed ≡ false → length (now (piece .entry)) ≤ r .at) ⌝ }
 {
     let mut state = run;
@@ -235,14 +243,14 @@ fn feed_piece(run: Run, cells: &mut [u8], piece: &[u8], out: &mut [u8], output: 
 // Hands over what stands at the start of the buffer.
 fn hand_over(output: Output, out: &[u8], n: usize) -> Sent
     requires { ⌜ n ≤ length (now out) ⌝ }
-    ensures { λ r. ⌜ r .output ≡ wrote output (front n (now (out .entry))) ⌝ }
+    ensures { λ r. ⌜ r .output ≡ sent (r .failed) (wrote output (front n (now (out .entry)))) ⌝ }
 {
     ports::send(output, &out[0..n])
 }
 
 fn send_head(out: &mut [u8], output: Output) -> Sent
     requires { ⌜ lineMost ≤ length (now out) ⌝ }
-    ensures { λ r. ⌜ r .output ≡ wrote output headLine ⌝ }
+    ensures { λ r. ⌜ r .output ≡ sent (r .failed) (wrote output headLine) ⌝ }
 {
     match lines::write_head(out) {
         Wrote::Bytes(n) => hand_over(output, out, n),
@@ -254,7 +262,7 @@ fn send_head(out: &mut [u8], output: Output) -> Sent
 }
 
 fn send_finish(run: Run, cells: &[u8], out: &mut [u8], output: Output) -> Sent
-    ensures { λ r. ⌜ r .output ≡ wrote output (finishOf run (now (cells .entry)) (length (now (out .entry))) .text) ⌝ }
+    ensures { λ r. ⌜ r .output ≡ sent (r .failed) (wrote output (finishOf run (now (cells .entry)) (length (now (out .entry))) .text)) ⌝ }
 {
     let fed = run::finish(run, cells, out);
     let n = fed.wrote;
@@ -262,7 +270,7 @@ fn send_finish(run: Run, cells: &[u8], out: &mut [u8], output: Output) -> Sent
 }
 
 fn send_fail(run: Run, cells: &[u8], out: &mut [u8], output: Output) -> Sent
-    ensures { λ r. ⌜ r .output ≡ wrote output (failOf run (now (cells .entry)) (length (now (out .entry))) .text) ⌝ }
+    ensures { λ r. ⌜ r .output ≡ sent (r .failed) (wrote output (failOf run (now (cells .entry)) (length (now (out .entry))) .text)) ⌝ }
 {
     let fed = run::fail(run, cells, out);
     let n = fed.wrote;

@@ -1,5 +1,6 @@
 -- `ports::reached` meets its contract. Assumes nothing.
 use mathlib.Core.Path.{ap}
+use mathlib.Core.Bool.{false}
 use Prim.Native.Nat.{ℕ}
 use borrow.Author.Needs.{needs}
 use Rattle.ports.proofs.reached.Statement.{statement}
@@ -9,7 +10,7 @@ counted-requires : tie.Need-counted-requires
 counted-requires c κs = search needs
 
 returns : tie.Need-returns
-returns c = let a = c .before .args in ap (λ (k : ℕ). record { input = record { descriptor = a .input .descriptor; bytes = k }; count = a .n; failed = a .failed }) (c .counted .ensures)
+returns c = let a = c .before .args in ap (λ (k : ℕ). record { input = record { descriptor = a .input .descriptor; bytes = k; end = a .input .end }; count = a .n; failed = false }) (c .counted .ensures)
 
 pub reached-spec : {M : Type 1} → statement M
 reached-spec = tie.close (tie.spec counted-requires returns)

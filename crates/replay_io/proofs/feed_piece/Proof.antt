@@ -1,4 +1,5 @@
 -- `replay_io::feed_piece` meets its contract. Assumes nothing.
+use mathlib.Core.Path.{_∙_}
 use native.Mathlib.Omega.{arith}
 use Prim.Native.Nat.{_-_}
 use lib.ListN.{length}
@@ -35,19 +36,19 @@ add-at : tie.Need-add-at Inv-loop μ-loop
 add-at c = let l = c .before .before .before .before .before .before .before .before .before .before .before .before .before .before .loop in let a = c .before .before .before .before .before .before .before .before .before .before .before .before .before .before .before .before .before .before .args in let f = c .before .before .before .before .before .before .before .before .before .feed in let h = going-inside (a .run) (a .cells .now) (a .piece .now) (a .output) (a .out .now) (l .at) (l .state) (l .cells) (l .handed) (l .out) (l .inv) (f .result) (f .last .1 .0) (f .last .1 .1 .1 .0) (f .ensures) in let g = c .before .before .before .before .before .before .before .before .before .before .before .before .before .before .before .before .before .before .good in omega (arith, h, g .1 .1 .0 .1)
 
 same-length : tie.Need-same-length Inv-loop μ-loop
-same-length c = let l = c .before .before .before .before .before .before .before .before .before .before .before .before .before .before .before .loop in let a = c .before .before .before .before .before .before .before .before .before .before .before .before .before .before .before .before .before .before .before .args in let f = c .before .before .before .before .before .before .before .before .before .before .feed in going-on (a .run) (a .cells .now) (a .piece .now) (a .output) (a .out .now) (l .at) (l .state) (l .cells) (l .handed) (l .out) (l .inv) (f .result) (f .last .1 .0) (f .last .1 .1 .1 .0) (f .ensures) (c .before .before .before .before .before .before .before .before .before .cells .given) (c .before .before .before .before .before .before .before .out .given) _ (c .before .before .before .before .hand-over .ensures) .cells-long
+same-length c = c .before .before .before .before .before .before .before .before .before .cells .given ∙ c .before .before .before .before .before .before .before .before .before .before .before .before .before .before .before .loop .inv .cells-long
 
 same-length-2 : tie.Need-same-length-2 Inv-loop μ-loop
-same-length-2 c = let l = c .before .before .before .before .before .before .before .before .before .before .before .before .before .before .before .loop in let a = c .before .before .before .before .before .before .before .before .before .before .before .before .before .before .before .before .before .before .before .args in let f = c .before .before .before .before .before .before .before .before .before .before .feed in going-on (a .run) (a .cells .now) (a .piece .now) (a .output) (a .out .now) (l .at) (l .state) (l .cells) (l .handed) (l .out) (l .inv) (f .result) (f .last .1 .0) (f .last .1 .1 .1 .0) (f .ensures) (c .before .before .before .before .before .before .before .before .before .cells .given) (c .before .before .before .before .before .before .before .out .given) _ (c .before .before .before .before .hand-over .ensures) .out-long
+same-length-2 c = c .before .before .before .before .before .before .before .out .given ∙ c .before .before .before .before .before .before .before .before .before .before .before .before .before .before .before .loop .inv .out-long
 
 returns : tie.Need-returns Inv-loop μ-loop
-returns c = let l = c .before .before .before .before .before .before .before .before .before .before .before .before .before .before .before .loop in let a = c .before .before .before .before .before .before .before .before .before .before .before .before .before .before .before .before .before .before .before .args in let f = c .before .before .before .before .before .before .before .before .before .before .feed in going-cut (a .run) (a .cells .now) (a .piece .now) (a .output) (a .out .now) (l .at) (l .state) (l .cells) (l .handed) (l .out) (l .inv) (f .result) (f .last .1 .0) (f .last .1 .1 .1 .0) (f .ensures) (c .before .before .before .before .before .before .before .before .before .cells .given) (c .before .before .before .before .before .before .before .out .given) _ (c .before .before .before .before .hand-over .ensures)
+returns c = let l = c .before .before .before .before .before .before .before .before .before .before .before .before .before .before .before .loop in let a = c .before .before .before .before .before .before .before .before .before .before .before .before .before .before .before .before .before .before .before .args in let f = c .before .before .before .before .before .before .before .before .before .before .feed in going-cut (a .run) (a .cells .now) (a .piece .now) (a .output) (a .out .now) (l .at) (l .state) (l .cells) (l .handed) (l .out) (l .inv) (f .result) (f .last .1 .0) (f .last .1 .1 .1 .0) (f .ensures) (c .before .before .before .before .hand-over .result .failed) _ (c .before .before .before .before .hand-over .ensures) (c .if1 .taken)
 
 loop-less : tie.Need-loop-less Inv-loop μ-loop
 loop-less c = let l = c .before .before .before .before .before .before .before .before .before .before .before .before .before .before .before .loop in let a = c .before .before .before .before .before .before .before .before .before .before .before .before .before .before .before .before .before .before .before .args in let f = c .before .before .before .before .before .before .before .before .before .before .feed in let h = going-inside (a .run) (a .cells .now) (a .piece .now) (a .output) (a .out .now) (l .at) (l .state) (l .cells) (l .handed) (l .out) (l .inv) (f .result) (f .last .1 .0) (f .last .1 .1 .1 .0) (f .ensures) in let m = going-moves (a .run) (a .cells .now) (a .piece .now) (a .output) (a .out .now) (l .at) (l .state) (l .cells) (l .handed) (l .out) (l .inv) (f .result) (f .last .1 .0) (f .last .1 .1 .1 .0) (f .ensures) (c .before .before .before .before .before .before .before .before .before .before .before .before .before .before .loop-test .taken) in omega (arith, h, m)
 
 loop-again : tie.Need-loop-again Inv-loop μ-loop
-loop-again c = let l = c .before .before .before .before .before .before .before .before .before .before .before .before .before .before .before .loop in let a = c .before .before .before .before .before .before .before .before .before .before .before .before .before .before .before .before .before .before .before .args in let f = c .before .before .before .before .before .before .before .before .before .before .feed in going-on (a .run) (a .cells .now) (a .piece .now) (a .output) (a .out .now) (l .at) (l .state) (l .cells) (l .handed) (l .out) (l .inv) (f .result) (f .last .1 .0) (f .last .1 .1 .1 .0) (f .ensures) (c .before .before .before .before .before .before .before .before .before .cells .given) (c .before .before .before .before .before .before .before .out .given) _ (c .before .before .before .before .hand-over .ensures)
+loop-again c = let l = c .before .before .before .before .before .before .before .before .before .before .before .before .before .before .before .loop in let a = c .before .before .before .before .before .before .before .before .before .before .before .before .before .before .before .before .before .before .before .args in let f = c .before .before .before .before .before .before .before .before .before .before .feed in going-on (a .run) (a .cells .now) (a .piece .now) (a .output) (a .out .now) (l .at) (l .state) (l .cells) (l .handed) (l .out) (l .inv) (f .result) (f .last .1 .0) (f .last .1 .1 .1 .0) (f .ensures) (c .before .before .before .before .hand-over .result .failed) _ (c .before .before .before .before .hand-over .ensures) (c .if1 .left) (c .before .before .before .before .before .before .before .before .before .cells .given) (c .before .before .before .before .before .before .before .out .given)
 
 same-length-3 : tie.Need-same-length-3 Inv-loop μ-loop
 same-length-3 c = c .before .loop .inv .cells-long

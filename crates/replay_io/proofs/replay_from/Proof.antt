@@ -16,17 +16,17 @@ no-output-requires c κs = search needs
 send-head-requires : tie.Need-send-head-requires
 send-head-requires c κs = search needs
 
-ended-requires : tie.Need-ended-requires
-ended-requires c κs = search needs
+stopped-requires : tie.Need-stopped-requires
+stopped-requires c κs = search needs
 
 same-length : tie.Need-same-length
 same-length c = search needs
 
 returns : tie.Need-returns
-returns c = head-failed _ _ _ (c .before .before .before .before .before .before .before .before .before .begin-mainnet .ensures .0) (c .before .before .before .before .before .before .before .before .before .begin-mainnet .ensures .1) _ (c .before .before .before .before .before .before .before .before .no-input .ensures) _ _ (c .before .before .before .before .before .before .no-output .ensures) (c .before .before .before .before .before .send-head .ensures) _ (c .ended .ensures)
+returns c = head-failed _ _ _ (c .before .before .before .before .before .before .before .before .before .begin-mainnet .ensures .0) (c .before .before .before .before .before .before .before .before .before .begin-mainnet .ensures .1) _ (c .before .before .before .before .before .before .before .before .no-input .ensures) (c .before .before .before .before .before .send-head .result .failed) _ _ (c .before .before .before .before .before .before .no-output .ensures) (c .before .before .before .before .before .send-head .ensures) (c .before .if1 .taken) _ (c .stopped .ensures)
 
 read-all-requires : tie.Need-read-all-requires
-read-all-requires c κs = let s = c .before .before .before .before .before .before .before .before .before .before .before .before .before .before .before in (reading-starts _ _ _ (c .before .before .before .before .before .before .before .before .before .before .before .begin-mainnet .ensures .0) (c .before .before .before .before .before .before .before .before .before .before .before .begin-mainnet .ensures .1) _ (c .before .before .before .before .before .before .before .before .before .before .no-input .ensures) _ _ (c .before .before .before .before .before .before .before .before .no-output .ensures) (c .before .before .before .before .before .before .before .send-head .ensures) _ (s .pre .0), search needs)
+read-all-requires c κs = let s = c .before .before .before .before .before .before .before .before .before .before .before .before .before .before .before in (reading-starts _ _ _ (c .before .before .before .before .before .before .before .before .before .before .before .begin-mainnet .ensures .0) (c .before .before .before .before .before .before .before .before .before .before .before .begin-mainnet .ensures .1) _ (c .before .before .before .before .before .before .before .before .before .before .no-input .ensures) (c .before .before .before .before .before .before .before .send-head .result .failed) _ _ (c .before .before .before .before .before .before .before .before .no-output .ensures) (c .before .before .before .before .before .before .before .send-head .ensures) (c .before .before .before .if1 .left) _ (s .pre .0), search needs)
 
 same-length-2 : tie.Need-same-length-2
 same-length-2 c = search needs
@@ -48,7 +48,7 @@ replay-from-spec =
     no-input-requires
     no-output-requires
     send-head-requires
-    ended-requires
+    stopped-requires
     same-length
     returns
     read-all-requires

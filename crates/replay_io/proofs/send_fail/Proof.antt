@@ -18,7 +18,7 @@ same-length : tie.Need-same-length
 same-length c = search needs
 
 returns : tie.Need-returns
-returns c = let a = c .before .before .before .before .before .before .before .before .args in text-sent (failOf (a .run) (a .cells .now) (length (a .out .now)) .text) (a .out .now) _ (c .before .before .before .before .fail .ensures .1) _ (ap (λ (f : Fed). f .wrote) (c .before .before .before .before .fail .ensures .0)) (a .output) _ (c .hand-over .ensures)
+returns c = let a = c .before .before .before .before .before .before .before .before .args in text-sent (failOf (a .run) (a .cells .now) (length (a .out .now)) .text) (a .out .now) _ (c .before .before .before .before .fail .ensures .1) _ (ap (λ (f : Fed). f .wrote) (c .before .before .before .before .fail .ensures .0)) (a .output) (c .hand-over .result .failed) _ (c .hand-over .ensures)
 
 pub send-fail-spec : {M : Type 1} → statement M
 send-fail-spec = tie.close (tie.spec fail-requires hand-over-requires same-length returns)

@@ -18,7 +18,7 @@ same-length : tie.Need-same-length
 same-length c = search needs
 
 returns : tie.Need-returns
-returns c = let a = c .before .before .before .before .before .before .before .before .args in text-sent (finishOf (a .run) (a .cells .now) (length (a .out .now)) .text) (a .out .now) _ (c .before .before .before .before .finish .ensures .1 .0) _ (ap (λ (f : Fed). f .wrote) (c .before .before .before .before .finish .ensures .0)) (a .output) _ (c .hand-over .ensures)
+returns c = let a = c .before .before .before .before .before .before .before .before .args in text-sent (finishOf (a .run) (a .cells .now) (length (a .out .now)) .text) (a .out .now) _ (c .before .before .before .before .finish .ensures .1 .0) _ (ap (λ (f : Fed). f .wrote) (c .before .before .before .before .finish .ensures .0)) (a .output) (c .hand-over .result .failed) _ (c .hand-over .ensures)
 
 pub send-finish-spec : {M : Type 1} → statement M
 send-finish-spec = tie.close (tie.spec finish-requires hand-over-requires same-length returns)

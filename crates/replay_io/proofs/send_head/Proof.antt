@@ -20,7 +20,7 @@ same-length : tie.Need-same-length
 same-length c = search needs
 
 returns : tie.Need-returns
-returns c = let s = c .before .before .before .before .before .before .before .before .before .before in head-sent (s .args .out .now) (s .pre) _ _ (c .before .before .before .before .before .before .before .write-head .ensures) _ (c .before .before .before .n .given .1) _ _ (c .hand-over .ensures)
+returns c = let s = c .before .before .before .before .before .before .before .before .before .before in head-sent (s .args .out .now) (s .pre) _ _ (c .before .before .before .before .before .before .before .write-head .ensures) _ (c .before .before .before .n .given .1) (s .args .output) (c .hand-over .result .failed) _ (c .hand-over .ensures)
 
 same-length-2 : tie.Need-same-length-2
 same-length-2 c = search needs
