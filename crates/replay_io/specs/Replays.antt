@@ -70,7 +70,8 @@ pub record Feeding (run : Run) (cells piece : List ℕ) (output : Output) (at : 
   pub goes-on : (more : List ℕ) → ahead run cells (piece ++ more) ≡ text ++ ahead run′ cells′ (drop at piece ++ more)
   pub ready : Ready run′ cells′
 
--- between two pieces, with so many reads left, each of which brings a byte at least: the run is not over; the text that was handed over, and what the run prints from here on, are what is printed
+-- between two pieces, with so many reads left, each of which brings a byte at least: the run is not over; the text that was handed over, and
+-- what the run prints from here on, are what is printed
 pub record Reading (from to left : ℕ) (run : Run) (cells : List ℕ) (input : Input) (output : Output) : Type 0 where
   pub bytes : List ℕ
   pub text : List ℕ
