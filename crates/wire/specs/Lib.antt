@@ -4,3 +4,4 @@ pub mod Values
 pub mod State
 pub mod Places
 pub mod Map
+pub mod Boundary

@@ -10,10 +10,8 @@ use Rattle.extension.specs.declared.body.FieldPlace.{FieldPlace}
 use Rattle.extension.specs.declared.update.RulePlace.{RulePlace}
 use Rattle.extension.specs.declared.update.StatusPlace.{StatusPlace}
 use Rattle.extension.specs.declared.update.Update.{Update}
-use Rattle.extension.specs.declared.boundary.Computed.{Computed}
 use Rattle.archive.specs.declared.record.RecordPlace.{RecordPlace}
 use Rattle.wire.specs.Numbers.{numberAt, numberBytes, fourBytes}
-use Rattle.wire.specs.Values.{tableBytes}
 
 -- a section: 12 bytes, how many items, where they begin and end
 unfoldable pub sectionBytes : Section → List ℕ
@@ -28,10 +26,6 @@ updateBytes u = sectionBytes (u .rules) ++ sectionBytes (u .statuses)
 
 unfoldable pub updateAt : List ℕ → ℕ → Update
 updateAt bytes at = record { rules = sectionAt bytes at; statuses = sectionAt bytes (at + 12) }
-
--- what a boundary computed: 84 bytes, the table and the activated update
-unfoldable pub computedBytes : Computed → List ℕ
-computedBytes c = tableBytes (c .table) ++ updateBytes (c .activated)
 
 -- a field: 16 bytes, the key's two bytes, each as a number, and where the value begins and ends
 unfoldable pub fieldBytes : FieldPlace → List ℕ
