@@ -1,0 +1,3 @@
+pub mod Laws
+pub mod Back
+pub mod MapLaws

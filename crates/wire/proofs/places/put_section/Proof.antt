@@ -1,0 +1,44 @@
+use Rattle.wire.specs.Places.{sectionBytes}
+use Rattle.wire.proofs.Back.{section-back}
+use Rattle.wire.proofs.Laws.{joined}
+use borrow.Author.Needs.{needs}
+use Rattle.wire.proofs.places.put_section.Statement.{statement}
+use Rattle.wire.proofs.places.put_section.Tie as tie
+
+put-u32-requires : tie.Need-put-u32-requires
+put-u32-requires c κs = search needs
+
+add-put-usize : tie.Need-add-put-usize
+add-put-usize c = search needs
+
+put-usize-requires : tie.Need-put-usize-requires
+put-usize-requires c κs = search needs
+
+add-put-usize-2 : tie.Need-add-put-usize-2
+add-put-usize-2 c = search needs
+
+put-usize-requires-2 : tie.Need-put-usize-requires-2
+put-usize-requires-2 c κs = search needs
+
+same-length : tie.Need-same-length
+same-length c = search needs
+
+returns : tie.Need-returns
+unfolding sectionBytes
+returns c =
+    let count = (c .before .before .before .before .before .before .before .before .before .before .put-u32) in (
+      joined (joined (count .ensures .0) ((c .before .before .before .before .before .before .put-usize) .ensures)) ((c .before .before .put-usize2) .ensures),
+      section-back _ (search needs),
+    )
+
+pub put-section-spec : {M : Type 1} → statement M
+put-section-spec =
+    tie.close
+    (tie.spec
+    put-u32-requires
+    add-put-usize
+    put-usize-requires
+    add-put-usize-2
+    put-usize-requires-2
+    same-length
+    returns)
