@@ -6,6 +6,7 @@ use codec::output::Wrote;
 use extension::boundary::Computed;
 use lent::boundary::BoundaryAt;
 ghost use mathlib.Core.Path.{_≡_};
+ghost use lib.ListN.{length};
 ghost use Rattle.codec.specs.Output.{outcome, writes};
 ghost use Rattle.wire.specs.Boundary.{questionOf, computedBytes};
 
@@ -27,6 +28,7 @@ pub fn question_of(bytes: &[u8]) -> BoundaryAt
 
 pub fn write_computed(c: Computed, out: &mut [u8]) -> Wrote
     ensures { λ r. ⌜ outcome r (now (out .exit)) ≡ writes (computedBytes c) (now (out .entry)) ⌝ }
+    ensures size { λ r. ⌜ length (computedBytes c) ≡ 84 ⌝ }
 {
     let mut cells = [0u8; 84];
     let table = c.table;

@@ -10,6 +10,7 @@ use extension::update::StatusPlace;
 use extension::update::Update;
 ghost use mathlib.Core.Path.{_≡_};
 ghost use Prim.Native.Nat.{_≤_, _<_, _^_};
+ghost use lib.ListN.{length};
 ghost use Rattle.codec.specs.Output.{outcome, writes};
 ghost use Rattle.wire.specs.Put.{Put, Back, Written};
 ghost use Rattle.wire.specs.Places.{sectionAt, sectionBytes, updateAt, updateBytes, fieldBytes, ruleBytes, statusBytes, recordBytes, Narrow};
@@ -17,6 +18,7 @@ ghost use Rattle.wire.specs.Places.{sectionAt, sectionBytes, updateAt, u
 pub fn write_section(s: Section, out: &mut [u8]) -> Wrote
     ensures { λ r. ⌜ outcome r (now (out .exit)) ≡ writes (sectionBytes s) (now (out .entry)) ⌝ }
     ensures reads_back { λ r. ⌜ (Written r → Narrow s → sectionAt (now (out .exit)) 0 ≡ s) ⌝ }
+    ensures size { λ r. ⌜ length (sectionBytes s) ≡ 12 ⌝ }
 {
     let mut cells = [0u8; 12];
     put_section(&mut cells, 0, s);
@@ -26,6 +28,7 @@ pub fn write_section(s: Section, out: &mut [u8]) -> Wrote
 pub fn write_update(u: Update, out: &mut [u8]) -> Wrote
     ensures { λ r. ⌜ outcome r (now (out .exit)) ≡ writes (updateBytes u) (now (out .entry)) ⌝ }
     ensures reads_back { λ r. ⌜ (Written r → Narrow (u .rules) → Narrow (u .statuses) → updateAt (now (out .exit)) 0 ≡ u) ⌝ }
+    ensures size { λ r. ⌜ length (updateBytes u) ≡ 24 ⌝ }
 {
     let mut cells = [0u8; 24];
     put_update(&mut cells, 0, u);
@@ -34,6 +37,7 @@ pub fn write_update(u: Update, out: &mut [u8]) -> Wrote
 
 pub fn write_field(f: FieldPlace, out: &mut [u8]) -> Wrote
     ensures { λ r. ⌜ outcome r (now (out .exit)) ≡ writes (fieldBytes f) (now (out .entry)) ⌝ }
+    ensures size { λ r. ⌜ length (fieldBytes f) ≡ 16 ⌝ }
 {
     let mut cells = [0u8; 16];
     numbers::put_four(&mut cells, 0, f.key0 as u32, f.key1 as u32, f.start, f.end);
@@ -42,6 +46,7 @@ pub fn write_field(f: FieldPlace, out: &mut [u8]) -> Wrote
 
 pub fn write_rule(x: RulePlace, out: &mut [u8]) -> Wrote
     ensures { λ r. ⌜ outcome r (now (out .exit)) ≡ writes (ruleBytes x) (now (out .entry)) ⌝ }
+    ensures size { λ r. ⌜ length (ruleBytes x) ≡ 8 ⌝ }
 {
     let mut cells = [0u8; 8];
     numbers::put_u32(&mut cells, 0, x.id as u32);
@@ -51,6 +56,7 @@ pub fn write_rule(x: RulePlace, out: &mut [u8]) -> Wrote
 
 pub fn write_status(x: StatusPlace, out: &mut [u8]) -> Wrote
     ensures { λ r. ⌜ outcome r (now (out .exit)) ≡ writes (statusBytes x) (now (out .entry)) ⌝ }
+    ensures size { λ r. ⌜ length (statusBytes x) ≡ 16 ⌝ }
 {
     let mut cells = [0u8; 16];
     let rule = x.rule;
@@ -61,6 +67,7 @@ pub fn write_status(x: StatusPlace, out: &mut [u8]) -> Wrote
 
 pub fn write_record(p: RecordPlace, out: &mut [u8]) -> Wrote
     ensures { λ r. ⌜ outcome r (now (out .exit)) ≡ writes (recordBytes p) (now (out .entry)) ⌝ }
+    ensures size { λ r. ⌜ length (recordBytes p) ≡ 20 ⌝ }
 {
     let mut cells = [0u8; 20];
     let body = (p.body % 0x1_0000_0000) as u32;

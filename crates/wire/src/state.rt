@@ -5,6 +5,7 @@ use archive::replay::Replay;
 use codec::output::Wrote;
 ghost use mathlib.Core.Path.{_≡_};
 ghost use Prim.Native.Nat.{_≤_};
+ghost use lib.ListN.{length};
 ghost use Rattle.codec.specs.Output.{outcome, writes};
 ghost use Rattle.wire.specs.Put.{Put, Back, Written};
 ghost use Rattle.wire.specs.State.{stateAt, stateBytes};
@@ -27,6 +28,7 @@ pub fn state_of(bytes: &[u8]) -> Replay
 pub fn write_state(x: Replay, out: &mut [u8]) -> Wrote
     ensures { λ r. ⌜ outcome r (now (out .exit)) ≡ writes (stateBytes x) (now (out .entry)) ⌝ }
     ensures reads_back { λ r. ⌜ (Written r → stateAt (now (out .exit)) 0 ≡ x) ⌝ }
+    ensures size { λ r. ⌜ length (stateBytes x) ≡ 95 ⌝ }
 {
     let mut cells = [0u8; 95];
     put_state(&mut cells, x);

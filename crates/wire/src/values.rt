@@ -12,6 +12,7 @@ use voting::tally::Entry;
 use voting::tally::Tally;
 ghost use mathlib.Core.Path.{_≡_};
 ghost use Prim.Native.Nat.{_≤_};
+ghost use lib.ListN.{length};
 ghost use Rattle.codec.specs.Output.{outcome, writes};
 ghost use Rattle.wire.specs.Put.{Put, Back, Written};
 ghost use Rattle.wire.specs.Values.{marked, valueAt, valueBytes, slotsAt, slotsBytes, forkAt, forkBytes, tableAt, tableBytes, settingsAt, settingsBytes, entryAt, entryBytes, tallyAt, tallyBytes};
@@ -31,6 +32,7 @@ pub fn settings_of(bytes: &[u8]) -> VotingConfig
 pub fn write_value(v: Value, out: &mut [u8]) -> Wrote
     ensures { λ r. ⌜ outcome r (now (out .exit)) ≡ writes (valueBytes v) (now (out .entry)) ⌝ }
     ensures reads_back { λ r. ⌜ (Written r → valueAt (now (out .exit)) 0 ≡ v) ⌝ }
+    ensures size { λ r. ⌜ length (valueBytes v) ≡ 5 ⌝ }
 {
     let mut cells = [0u8; 5];
     put_value(&mut cells, 0, v);
@@ -40,6 +42,7 @@ pub fn write_value(v: Value, out: &mut [u8]) -> Wrote
 pub fn write_table(t: Table, out: &mut [u8]) -> Wrote
     ensures { λ r. ⌜ outcome r (now (out .exit)) ≡ writes (tableBytes t) (now (out .entry)) ⌝ }
     ensures reads_back { λ r. ⌜ (Written r → tableAt (now (out .exit)) 0 ≡ t) ⌝ }
+    ensures size { λ r. ⌜ length (tableBytes t) ≡ 60 ⌝ }
 {
     let mut cells = [0u8; 60];
     put_table(&mut cells, 0, t);
@@ -49,6 +52,7 @@ pub fn write_table(t: Table, out: &mut [u8]) -> Wrote
 pub fn write_settings(g: VotingConfig, out: &mut [u8]) -> Wrote
     ensures { λ r. ⌜ outcome r (now (out .exit)) ≡ writes (settingsBytes g) (now (out .entry)) ⌝ }
     ensures reads_back { λ r. ⌜ (Written r → settingsAt (now (out .exit)) 0 ≡ g) ⌝ }
+    ensures size { λ r. ⌜ length (settingsBytes g) ≡ 16 ⌝ }
 {
     let mut cells = [0u8; 16];
     put_settings(&mut cells, 0, g);
@@ -58,6 +62,7 @@ pub fn write_settings(g: VotingConfig, out: &mut [u8]) -> Wrote
 pub fn write_tally(y: Tally, out: &mut [u8]) -> Wrote
     ensures { λ r. ⌜ outcome r (now (out .exit)) ≡ writes (tallyBytes y) (now (out .entry)) ⌝ }
     ensures reads_back { λ r. ⌜ (Written r → tallyAt (now (out .exit)) 0 ≡ y) ⌝ }
+    ensures size { λ r. ⌜ length (tallyBytes y) ≡ 15 ⌝ }
 {
     let mut cells = [0u8; 15];
     put_tally(&mut cells, 0, y);

@@ -27,7 +27,7 @@ same-length c = search needs
 
 returns : tie.Need-returns
 unfolding computedBytes
-returns c = handed (joined ((c .before .before .before .before .before .before .before .before .before .put-table) .ensures .0) ((c .before .before .before .before .before .before .put-update) .ensures .0)) (search needs) _ ((c .before .before .write-bytes) .ensures)
+returns c = let put = joined ((c .before .before .before .before .before .before .before .before .before .put-table) .ensures .0) ((c .before .before .before .before .before .before .put-update) .ensures .0) in (handed put (search needs) _ (c .before .before .write-bytes .ensures), put .long)
 
 pub write-computed-spec : {M : Type 1} → statement M
 write-computed-spec =

@@ -27,7 +27,7 @@ same-length c = search needs
 
 returns : tie.Need-returns
 unfolding fieldBytes
-returns c = handed ((c .before .before .before .before .before .before .put-four) .ensures) (search needs) _ ((c .before .before .write-bytes) .ensures)
+returns c = let put = (c .before .before .before .before .before .before .put-four) .ensures in (handed put (search needs) _ (c .before .before .write-bytes .ensures), put .long)
 
 pub write-field-spec : {M : Type 1} → statement M
 write-field-spec =

@@ -31,7 +31,7 @@ same-length c = search needs
 
 returns : tie.Need-returns
 unfolding recordBytes
-returns c = handed (joined (renamed (four-same _ _ _ _ _ _ refl (low-bytes _ _ refl)) ((c .before .before .before .before .before .before .before .before .before .put-four) .ensures)) ((c .before .before .before .before .before .before .put-usize) .ensures)) (search needs) _ ((c .before .before .write-bytes) .ensures)
+returns c = let put = joined (renamed (four-same _ _ _ _ _ _ refl (low-bytes _ _ refl)) ((c .before .before .before .before .before .before .before .before .before .put-four) .ensures)) ((c .before .before .before .before .before .before .put-usize) .ensures) in (handed put (search needs) _ (c .before .before .write-bytes .ensures), put .long)
 
 pub write-record-spec : {M : Type 1} → statement M
 write-record-spec =

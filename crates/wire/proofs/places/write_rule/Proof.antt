@@ -30,7 +30,7 @@ same-length c = search needs
 
 returns : tie.Need-returns
 unfolding ruleBytes
-returns c = handed (joined ((c .before .before .before .before .before .before .before .before .before .put-u32) .ensures .0) ((c .before .before .before .before .before .before .put-usize) .ensures)) (search needs) _ ((c .before .before .write-bytes) .ensures)
+returns c = let put = joined ((c .before .before .before .before .before .before .before .before .before .put-u32) .ensures .0) ((c .before .before .before .before .before .before .put-usize) .ensures) in (handed put (search needs) _ (c .before .before .write-bytes .ensures), put .long)
 
 pub write-rule-spec : {M : Type 1} → statement M
 write-rule-spec =

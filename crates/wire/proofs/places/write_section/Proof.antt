@@ -23,7 +23,7 @@ returns : tie.Need-returns
 returns c =
     let put = (c .before .before .before .before .before .before .put-section) in
     let e = handed (put .ensures .0) (search needs) _ ((c .before .before .write-bytes) .ensures) in
-    (e, λ w n. reads-back (put .ensures .1 n) (c .before .before .write-bytes .result) _ _ e w)
+    (e, (λ w n. reads-back (put .ensures .1 n) (c .before .before .write-bytes .result) _ _ e w, put .ensures .0 .long))
 
 pub write-section-spec : {M : Type 1} → statement M
 write-section-spec =

@@ -40,7 +40,8 @@ returns c =
     let z = (c .before .before .before .before .before .before .before .before .before .before .before .before .before .args) .x .rule .0 in
     let f : SFits w16 z = search needs in
     let e = (c .before .before .before .before .before .before .before .before .before .bits-i16) .ensures ∙ ap (bitsOf 16) (toZ-ofZ w16 z f) in
-    handed (renamed (four-same _ _ _ _ _ _ (ap numberBytes e) refl) ((c .before .before .before .before .before .before .put-four) .ensures)) (search needs) _ ((c .before .before .write-bytes) .ensures)
+    let put = renamed (four-same _ _ _ _ _ _ (ap numberBytes e) refl) (c .before .before .before .before .before .before .put-four .ensures) in
+    (handed put (search needs) _ (c .before .before .write-bytes .ensures), put .long)
 
 pub write-status-spec : {M : Type 1} → statement M
 write-status-spec =

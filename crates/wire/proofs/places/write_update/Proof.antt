@@ -23,7 +23,7 @@ returns : tie.Need-returns
 returns c =
     let put = (c .before .before .before .before .before .before .put-update) in
     let e = handed (put .ensures .0) (search needs) _ ((c .before .before .write-bytes) .ensures) in
-    (e, λ w r s. reads-back (put .ensures .1 r s) (c .before .before .write-bytes .result) _ _ e w)
+    (e, (λ w r s. reads-back (put .ensures .1 r s) (c .before .before .write-bytes .result) _ _ e w, put .ensures .0 .long))
 
 pub write-update-spec : {M : Type 1} → statement M
 write-update-spec =

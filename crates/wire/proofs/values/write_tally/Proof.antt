@@ -23,7 +23,7 @@ returns : tie.Need-returns
 returns c =
     let put = (c .before .before .before .before .before .before .put-tally) in
     let e = handed (put .ensures .0) (search needs) _ ((c .before .before .write-bytes) .ensures) in
-    (e, reads-back (put .ensures .1) (c .before .before .write-bytes .result) _ _ e)
+    (e, (reads-back (put .ensures .1) (c .before .before .write-bytes .result) _ _ e, put .ensures .0 .long))
 
 pub write-tally-spec : {M : Type 1} → statement M
 write-tally-spec =
