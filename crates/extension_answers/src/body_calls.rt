@@ -7,6 +7,10 @@ use extension::parameters;
 use extension::parameters::ParameterMap;
 use extension::section::Parsed;
 use extension::section::Section;
+use lent::reader;
+use lent::reader::Cursor;
+use lent::reader::FieldRead;
+use lent::reader::NextField;
 use rows::bytes;
 use rows::bytes::NO_ANSWER;
 use rows::values;
@@ -124,34 +128,37 @@ pub fn check_parameters_v6(s: &[u8], out: &mut [u8]) -> usize {
 }
 
 // A field as it stands in a body.
-fn put_field(s: &[u8], at: usize, f: FieldPlace, out: &mut [u8], to: usize) -> usize {
-    let v = body::field_value(s, at);
+fn put_field(s: &[u8], cursor: Cursor, x: FieldRead, out: &mut [u8], to: usize) -> usize {
+    let f = x.place;
+    let v = reader::value_at(s, cursor);
     let size = (v.len() % 256) as u8;
     let next = bytes::put_bytes(out, to, &[f.key0, f.key1, size]);
     bytes::put_bytes(out, next, v)
 }
 
-fn put_field_of(s: &[u8], at: usize, out: &mut [u8], to: usize) -> usize {
-    match body::field_at(s, at) {
-        FieldAt::HasField(f) => put_field(s, at, f, out, to),
-        FieldAt::NoField(_) => NO_ANSWER,
+fn put_next(s: &[u8], cursor: Cursor, out: &mut [u8], to: usize) -> usize {
+    match reader::read_at(s, cursor) {
+        NextField::Found(x) => put_field(s, cursor, x, out, to),
+        NextField::Refused(_) => NO_ANSWER,
+        NextField::Done => NO_ANSWER,
     }
 }
 
-fn after_field(s: &[u8], at: usize) -> usize {
-    match body::field_at(s, at) {
-        FieldAt::HasField(f) => f.end,
-        FieldAt::NoField(_) => at,
+fn cursor_after(s: &[u8], cursor: Cursor) -> Cursor {
+    match reader::read_at(s, cursor) {
+        NextField::Found(x) => x.cursor,
+        NextField::Refused(_) => cursor,
+        NextField::Done => cursor,
     }
 }
 
-fn put_fields(s: &[u8], x: Section, out: &mut [u8], to: usize) -> usize {
+fn put_fields(s: &[u8], begin: Cursor, out: &mut [u8], to: usize) -> usize {
     let mut next = to;
-    let mut at = x.begin;
-    let mut left = x.count;
+    let mut cursor = begin;
+    let mut left = begin.left;
     while 0 < left {
-        next = put_field_of(s, at, out, next);
-        at = after_field(s, at);
+        next = put_next(s, cursor, out, next);
+        cursor = cursor_after(s, cursor);
         left -= 1;
     }
     next
@@ -159,8 +166,7 @@ fn put_fields(s: &[u8], x: Section, out: &mut [u8], to: usize) -> usize {
 
 pub fn fields(s: &[u8], out: &mut [u8]) -> usize {
     let x = body::parse_extension_bytes(s);
-    let section = x.section;
     let first = bytes::put(out, 0, x.refusal);
     let second = bytes::put_bytes(out, first, body::header_id(s));
-    put_fields(s, section, out, second)
+    put_fields(s, reader::cursor_of(s), out, second)
 }

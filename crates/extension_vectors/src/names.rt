@@ -19,7 +19,7 @@ pack::pack_extension_bytes
 pack::pack_parameters_to_kv
 encode::encode_validation_settings_update
 encode::encode_disabled_rules
-body::field_at, field_value over a body
+reader::read_at, value_at over a body
 body::check_body on all short bodies
 update::parse_validation_settings_update on all short updates
 body::check_body on the cuts of a body

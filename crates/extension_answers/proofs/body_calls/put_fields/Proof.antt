@@ -6,19 +6,19 @@ use Rattle.extension_answers.proofs.body_calls.put_fields.Statement.{st
 use Rattle.extension_answers.proofs.body_calls.put_fields.Tie as tie
 
 abbrev Inv-loop : tie.InvT-loop
-Inv-loop s out₀ to next₀ at₀ left₀ out next at left = length out ≡ length out₀
+Inv-loop s out₀ to next₀ cursor₀ left₀ out next cursor left = length out ≡ length out₀
 
 abbrev μ-loop : tie.MeasureT-loop
-μ-loop s out₀ to next₀ at₀ left₀ out next at left = left
+μ-loop s out₀ to next₀ cursor₀ left₀ out next cursor left = left
 
 loop-holds : tie.Need-loop-holds Inv-loop μ-loop
 loop-holds c = search needs
 
-put-field-of-requires : tie.Need-put-field-of-requires Inv-loop μ-loop
-put-field-of-requires c κs = search needs
+put-next-requires : tie.Need-put-next-requires Inv-loop μ-loop
+put-next-requires c κs = search needs
 
-after-field-requires : tie.Need-after-field-requires Inv-loop μ-loop
-after-field-requires c κs = search needs
+cursor-after-requires : tie.Need-cursor-after-requires Inv-loop μ-loop
+cursor-after-requires c κs = search needs
 
 sub-left : tie.Need-sub-left Inv-loop μ-loop
 sub-left c = search needs
@@ -42,8 +42,8 @@ put-fields-spec =
     Inv-loop
     μ-loop
     loop-holds
-    put-field-of-requires
-    after-field-requires
+    put-next-requires
+    cursor-after-requires
     sub-left
     loop-less
     loop-again
