@@ -20,18 +20,11 @@ use Rattle.archive.specs.Replay.{replayOf, verdictNumber, verdictId}
 use Rattle.archive.specs.Rounds.{stateAfter}
 use Rattle.archive.proofs.Laws.Rounds.{KeepsBy, keeps}
 use Rattle.wire.specs.Put.{Written}
+use Rattle.wire.proofs.Back.{cellsOf, IsWrote}
 use Rattle.wire.specs.State.{stateAt, stateBytes}
 use Rattle.exports.specs.Reply.{Reply, reply, numbered, numberOf}
 use Rattle.exports.specs.Calls.{verdictCode, replayedInto}
 use Rattle.exports.specs.Replays.{Replays, CallsOn, Onward}
-
-abbrev IsWrote : Outcome → Type 0
-IsWrote (wrote n cells) = Unit {0}
-IsWrote (refused e cells) = ⊥
-
-abbrev cellsOf : Outcome → List ℕ
-cellsOf (wrote n cells) = cells
-cellsOf (refused e cells) = cells
 
 abbrev cellsIn : Reply → List ℕ
 cellsIn (reply r cells) = cells

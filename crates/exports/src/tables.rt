@@ -68,7 +68,7 @@ pub extern "C" fn ergo_change_approved(settings: &[u8], votes: u32) -> u8
     answer::flag_of(g.change_approved(votes))
 }
 
-// The least value from which a parameter is lowered, into cells: 0, or 21. Absent where no parameter has the id.
+// The least value from which a parameter is lowered, into cells: 0, or 21. Absent where no parameter has the id; its sign is not looked at.
 #[no_mangle]
 pub extern "C" fn ergo_parameter_min(id: i8, out: &mut [u8]) -> u8
     ensures { λ r. ⌜ reply r (now (out .exit)) ≡ numbered (writes (valueBytes (parameterMin id)) (now (out .entry))) ⌝ }

@@ -155,11 +155,11 @@ unfolding updateAt updateBytes
 update-back u l p q s at h = let y = cut l h in rw (p s at (y .0), q s (at + 12) (y .1))
 
 -- what was written stands from the start of the cells, and is read back
-abbrev cellsOf : Outcome → List ℕ
+abbrev pub cellsOf : Outcome → List ℕ
 cellsOf (wrote n cells) = cells
 cellsOf (refused e cells) = cells
 
-abbrev IsWrote : Outcome → Type 0
+abbrev pub IsWrote : Outcome → Type 0
 IsWrote (wrote n cells) = Unit {0}
 IsWrote (refused e cells) = ⊥
 

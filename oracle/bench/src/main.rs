@@ -8,14 +8,12 @@ use std::path::{Path, PathBuf};
 use std::process::{Command, Stdio};
 use std::time::Instant;
 
-use ergo_voting::{Replay, TABLE};
+use ergo_voting::{Network, State, Table};
 use oracle::replay::open_mainnet;
 use streams::{Timed, EPOCHS, HEADERS};
 
 const RUNS: usize = 25;
 const FIRST_HEIGHT: u32 = 1_024;
-const DEFAULT_TABLE: u8 = 0x1a;
-const MAINNET: [u8; 1] = [0];
 
 fn main() -> io::Result<()> {
     let streams = streams::all();
@@ -42,12 +40,12 @@ fn replay_rust(records: &[Vec<u8>]) {
 }
 
 fn replay_port(records: &[Vec<u8>]) {
-    let mut table = [0; TABLE];
-    ergo_voting::answer(DEFAULT_TABLE, &MAINNET, &mut table).expect("the default table");
-    let mut replay = Replay::open(FIRST_HEIGHT, &table).expect("an opening at 1,024");
+    let table = Table::default_parameters(Network::Mainnet);
+    let mut state = State::open(FIRST_HEIGHT, &table).expect("an opening at 1,024");
     for record in records {
-        replay.replay(record).expect("a record that is accepted");
+        state.replay(record).expect("a record that is accepted");
     }
+    assert_eq!(state.next_height() as usize, (EPOCHS + 1) * HEADERS);
 }
 
 fn end_to_end(stream: &Timed, folder: &Path) -> io::Result<()> {
@@ -55,7 +53,13 @@ fn end_to_end(stream: &Timed, folder: &Path) -> io::Result<()> {
     fs::write(&path, stream.records.concat())?;
     let replay = best(|| run("target/bin/replay", &[], &path));
     let sha256sum = best(|| run("sha256sum", &[&path], &path));
-    println!("{}: replay {:.1} ms, sha256sum {:.1} ms, ratio {:.1}", stream.name, replay * 1e3, sha256sum * 1e3, sha256sum / replay);
+    println!(
+        "{}: replay {:.1} ms, sha256sum {:.1} ms, ratio {:.1}",
+        stream.name,
+        replay * 1e3,
+        sha256sum * 1e3,
+        sha256sum / replay
+    );
     Ok(())
 }
 

@@ -18,7 +18,6 @@ fn all_headers() -> Report {
     for header in 0..1u32 << 24 {
         report.compare(0x11, &header.to_be_bytes()[1..]);
     }
-    report.compare(0x23, &[]);
     report
 }
 
@@ -26,9 +25,8 @@ fn short_bodies() -> Report {
     let mut report = Report::default();
     for end in short_strings(2) {
         let body = [&[0xa5; 32][..], &end].concat();
-        [0x25, 0x26, 0x29, 0x2a, 0x2b, 0x35, 0x42].into_iter().for_each(|call| report.compare(call, &body));
+        [0x25, 0x26, 0x29, 0x2a, 0x2b, 0x35].into_iter().for_each(|call| report.compare(call, &body));
     }
-    report.compare(0x36, &[]);
     report
 }
 
@@ -38,7 +36,6 @@ fn short_updates() -> Report {
         report.compare(0x2d, &bytes);
     }
     short_strings(2).for_each(|bytes| report.compare(0x2e, &bytes));
-    report.compare(0x37, &[]);
     report
 }
 

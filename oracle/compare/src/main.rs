@@ -1,26 +1,28 @@
 //! `compare [SEED]`: feeds the Rust and the static library the same inputs, and compares the answers byte by byte. It prints a
 //! line for each kind of inputs, and fails if an answer differs or a kind had no input.
 
+mod door;
 mod exhaustive;
-mod lent;
+mod long;
 mod report;
 mod streams;
-mod users;
 
 use std::process::ExitCode;
 
 use oracle::inputs::random::Random;
-use oracle::inputs::{Kind, KINDS};
+use oracle::inputs::{updates, Kind, KINDS};
 use report::Report;
+
+/// Beside the kinds that rows are taken from.
+const LENT: Kind = Kind { name: "boundary over a lent list", times: 1_000_000, make: updates::lent_boundaries };
 
 fn main() -> ExitCode {
     let seed = std::env::args().nth(1).map_or(1, |word| word.parse().expect("a seed is a number"));
     println!("seed {seed}");
     let exhaustive = exhaustive::KINDS.iter().map(|(name, run)| print(name, run()));
-    let random = KINDS.iter().map(|kind| print(kind.name, run(kind, &mut Random::new(seed))));
+    let random = KINDS.iter().chain([&LENT]).map(|kind| print(kind.name, run(kind, &mut Random::new(seed))));
     let mut reports: Vec<Report> = exhaustive.chain(random).collect();
-    reports.push(print("boundary over a lent list", lent::run(&mut Random::new(seed))));
-    reports.push(print("ergo_open and ergo_replay", users::run(&mut Random::new(seed))));
+    reports.push(print("long lists", long::run(&mut Random::new(seed))));
     reports.push(print("lines over streams", streams::run(&mut Random::new(seed))));
     let [compared, differ, outside] =
         [Report::compared, Report::differ, Report::outside].map(|f| reports.iter().map(f).sum::<u64>());

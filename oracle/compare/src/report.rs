@@ -2,17 +2,19 @@
 
 use std::fmt;
 
-use ergo_voting::NoAnswer;
 use oracle::answers::{self, Gap};
 
-const LONGEST_ANSWER: usize = 0x4_0000;
+use crate::door;
 
+/// How many bytes of an input or an answer are printed.
+const MOST_PRINTED: usize = 10_000;
+
+#[derive(Default)]
 pub struct Report {
     compared: u64,
     differ: u64,
     outside: u64,
     shortest: Option<Difference>,
-    out: Vec<u8>,
 }
 
 /// An input, how many bytes it has, and what the two sides answer.
@@ -21,12 +23,6 @@ struct Difference {
     size: usize,
     rust: String,
     library: String,
-}
-
-impl Default for Report {
-    fn default() -> Report {
-        Report { compared: 0, differ: 0, outside: 0, shortest: None, out: vec![0; LONGEST_ANSWER] }
-    }
 }
 
 impl Report {
@@ -44,27 +40,39 @@ impl Report {
 
     /// Hands an input to both sides.
     pub fn compare(&mut self, call: u8, input: &[u8]) {
-        let mut out = std::mem::take(&mut self.out);
-        self.compare_given(call, input, || ergo_voting::answer(call, input, &mut out));
-        self.out = out;
+        self.compare_given(call, input, || door::answer(call, input));
     }
 
     /// One outside the domain of document 01 is counted and not compared; one that the Rust can't be asked ends the run, since no
     /// kind should have it.
-    pub fn compare_given<'a>(&mut self, call: u8, input: &[u8], library: impl FnOnce() -> Result<&'a [u8], NoAnswer>) {
+    pub fn compare_given(&mut self, call: u8, input: &[u8], library: impl FnOnce() -> Vec<u8>) {
         match answers::answer(call, input) {
             Err(Gap::Outside) => self.outside += 1,
             Err(Gap::NoCounterpart) => panic!("call {call:02x} has no counterpart for {}", hex(input)),
             Ok(rust) => {
                 let given = library();
-                self.count(given.is_ok_and(|bytes| rust.fits(bytes)), || Difference {
+                self.compared += 1;
+                self.count(rust.fits(&given), || Difference {
                     input: format!("call {call:02x} of {}", hex(input)),
                     size: input.len(),
                     rust: hex(&rust.bytes),
-                    library: given.map_or_else(|none| format!("{none:?}"), hex),
+                    library: hex(&given),
                 });
             }
         }
+    }
+
+    /// One outside the domain, which the Rust takes and the library must refuse by a number of document 01.
+    pub fn refused_outside(&mut self, number: u8, call: u8, input: &[u8]) {
+        assert_eq!(answers::answer(call, input), Err(Gap::Outside), "call {call:02x}");
+        let given = door::answer(call, input);
+        self.outside += 1;
+        self.count(given.first() == Some(&number), || Difference {
+            input: format!("call {call:02x} of {}", hex(input)),
+            size: input.len(),
+            rust: format!("not asked; the rules say {number:02x}"),
+            library: hex(&given),
+        });
     }
 
     /// Compares texts for an input of records, line by line.
@@ -72,6 +80,7 @@ impl Report {
         let line =
             |text: &[u8], i: usize| String::from_utf8_lossy(text.split(|b| *b == b'\n').nth(i).unwrap_or(&[])).into_owned();
         let first = || (0..).find(|&i| line(rust, i) != line(library, i)).expect("a line that differs");
+        self.compared += 1;
         self.count(rust == library, || {
             let i = first();
             let input_text = format!("line {} of what is printed for {}", i + 1, hex(input));
@@ -80,7 +89,6 @@ impl Report {
     }
 
     fn count(&mut self, same: bool, difference: impl FnOnce() -> Difference) {
-        self.compared += 1;
         if same {
             return;
         }
@@ -92,8 +100,13 @@ impl Report {
     }
 }
 
+/// A longer input can be made anew from its seed.
 fn hex(bytes: &[u8]) -> String {
-    bytes.iter().map(|b| format!("{b:02x}")).collect()
+    let shown: String = bytes.iter().take(MOST_PRINTED).map(|b| format!("{b:02x}")).collect();
+    if bytes.len() > MOST_PRINTED {
+        return format!("{shown}.. ({} bytes)", bytes.len());
+    }
+    shown
 }
 
 impl fmt::Display for Report {

@@ -43,7 +43,6 @@ pub fn answer(call: u8, input: &[u8]) -> Given {
         0x37 => short_updates(input),
         0x38 => cuts(input, |cut| number_of(&checked(cut)?)),
         0x39 => cuts(input, |cut| number_of(&rules::parse_update(cut))),
-        0x42 => read_fields(input),
         0x43 => lent_boundary(&mut Input(input)),
         _ => Err(Gap::NoCounterpart),
     }
@@ -102,13 +101,6 @@ fn fields(body: &[u8]) -> Given {
         out.extend(id);
         out.extend(field_bytes(&fields));
     }
-    Ok(out.into())
-}
-
-/// The fields, and 0 after the last one. A body that is refused has none.
-fn read_fields(body: &[u8]) -> Given {
-    let mut out = parse(body)?.map_or(Vec::new(), |(_, fields)| field_bytes(&fields));
-    out.push(0);
     Ok(out.into())
 }
 

@@ -2,7 +2,6 @@
 
 pub mod archive;
 pub mod bytes;
-mod codec;
 pub mod extension;
 mod voting;
 
@@ -46,9 +45,8 @@ impl Answer {
 /// The Rust's answer to a call of docs/VECTORS.md.
 pub fn answer(call: u8, input: &[u8]) -> Given {
     match call {
-        0x01..=0x10 => codec::answer(call, input),
         0x11..=0x24 => voting::answer(call, input),
-        0x25..=0x39 | 0x42 | 0x43 => extension::answer(call, input),
+        0x25..=0x39 | 0x43 => extension::answer(call, input),
         _ => archive::answer(call, input),
     }
 }

@@ -70,7 +70,7 @@ pub fn make(random: &mut Random) -> Vec<Asked> {
     if random.one_in(50) {
         return vec![(0x38, body)];
     }
-    [0x25, 0x26, 0x29, 0x2a, 0x2b, 0x35, 0x42].into_iter().map(|call| (call, body.clone())).collect()
+    [0x25, 0x26, 0x29, 0x2a, 0x2b, 0x35].into_iter().map(|call| (call, body.clone())).collect()
 }
 
 /// The entries of a table, some of them changed, absent or more.

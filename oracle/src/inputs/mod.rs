@@ -2,7 +2,6 @@
 
 mod bodies;
 mod damage;
-mod numbers;
 pub mod random;
 pub mod records;
 pub mod updates;
@@ -21,8 +20,7 @@ pub struct Kind {
     pub make: fn(&mut Random) -> Vec<Asked>,
 }
 
-pub const KINDS: [Kind; 15] = [
-    Kind { name: "VLQ numbers (the stand-in's), casts", times: 100_000, make: numbers::make },
+pub const KINDS: [Kind; 14] = [
     Kind { name: "tallies", times: 100_000, make: voting::tallies },
     Kind { name: "boundaries", times: 1_000_000, make: voting::boundaries },
     Kind { name: "boundaries with an update", times: 300_000, make: updates::boundaries },

@@ -1,0 +1,137 @@
+/* The helpers of the header, and the library from C: NULL for a length of 0, outputs that are too short, a boundary. */
+#undef NDEBUG
+#include <assert.h>
+#include <stdio.h>
+
+#include "ergo_voting.h"
+
+#define UNTOUCHED 0xeeu
+
+static uint8_t table[ERGO_TABLE_SIZE];
+static uint8_t settings[ERGO_SETTINGS_SIZE];
+
+/* Whether cells are as they were filled. */
+static bool untouched(const uint8_t *cells, size_t count) {
+    for (size_t i = 0; i < count; i++) {
+        if (cells[i] != UNTOUCHED) {
+            return false;
+        }
+    }
+    return true;
+}
+
+static void numbers(void) {
+    uint8_t bytes[4];
+    ergo_put_number(bytes, 0x80000001u);
+    assert(ergo_number(bytes) == 0x80000001u);
+    assert(ergo_signed_number(bytes) == INT32_MIN + 1);
+    ergo_put_number(bytes, 0x7fffffffu);
+    assert(ergo_signed_number(bytes) == INT32_MAX);
+}
+
+static void tables(void) {
+    int32_t value = 5;
+    uint8_t other[ERGO_TABLE_SIZE];
+    memcpy(other, table, sizeof other);
+    assert(ergo_table_get(table, 1, &value) && value == 1250000);
+    assert(ergo_table_get(table, 123, &value) && value == 1);
+    assert(!ergo_table_get(table, 9, &value) && !ergo_table_get(table, 121, &value) && value == 1);
+    assert(!ergo_table_get(table, 0, &value) && !ergo_table_get(table, 10, &value));
+    assert(ergo_table_set(other, 122, -1) && ergo_table_get(other, 122, &value) && value == -1);
+    assert(ergo_table_remove(other, 122) && memcmp(other, table, sizeof other) == 0);
+    assert(!ergo_table_set(other, 120, 1) && !ergo_table_remove(other, 120) && memcmp(other, table, sizeof other) == 0);
+}
+
+static void tallies(void) {
+    const uint8_t votes[] = {0xff, 0, 120, 0xff, 0xff, 2};
+    uint8_t tally[ERGO_TALLY_SIZE];
+    ergo_entry entries[ERGO_TALLY_ENTRIES];
+    assert(ergo_tally_votes_seeded(1024, votes, sizeof votes, 2048, 1024, tally, sizeof tally) == 0);
+    assert(ergo_tally_entries(tally, entries) == 2);
+    assert(entries[0].id == -1 && entries[0].count == 3 && entries[1].id == 120 && entries[1].count == 1);
+}
+
+static void boundary(void) {
+    const ergo_entry tally[] = {{1, 513}, {-2, 513}, {3, 512}};
+    uint8_t question[ERGO_QUESTION_SIZE], out[ERGO_COMPUTED_SIZE];
+    int32_t value;
+    ergo_question(question, settings, 2048, table, true);
+    assert(ergo_compute_boundary_parameters(tally, 3, NULL, 0, question, sizeof question, out, sizeof out) == 0);
+    assert(ergo_table_get(out + ERGO_COMPUTED_TABLE_AT, 1, &value) && value == 1275000);
+    assert(ergo_table_get(out + ERGO_COMPUTED_TABLE_AT, 2, &value) && value == 350);
+    assert(ergo_table_get(out + ERGO_COMPUTED_TABLE_AT, 122, &value) && value == 2048);
+    assert(ergo_number(out + ERGO_COMPUTED_UPDATE_AT + ERGO_UPDATE_RULES_AT + ERGO_SECTION_COUNT_AT) == 0);
+}
+
+static void states(void) {
+    uint8_t state[ERGO_STATE_SIZE], before[ERGO_STATE_SIZE];
+    assert(ergo_open(1024, table, sizeof table, state, sizeof state) == 0);
+    assert(ergo_state_next_height(state) == 1024);
+    assert(memcmp(ergo_state_table(state), table, sizeof table) == 0);
+    memcpy(before, state, sizeof state);
+    assert(ergo_replay(state, sizeof state, NULL, 0) == ERGO_RECORD_MALFORMED);
+    assert(memcmp(before, state, sizeof state) == 0);
+}
+
+static void answers(void) {
+    uint16_t answer = ergo_check_parameters_v6(table, sizeof table, NULL, 0);
+    assert(ergo_refusal_of(answer) == ERGO_ENTRY_DIFFERS && ergo_id_of(answer) == 1);
+    assert(ergo_check_parameters_v6(NULL, 0, NULL, 0) == 0);
+}
+
+/* Nothing to read, and nothing to write to. */
+static void nothing_lent(void) {
+    assert(ergo_default_parameters(ERGO_MAINNET, NULL, 0) == ERGO_OUTPUT_SHORT);
+    assert(ergo_soft_fork_approved(NULL, 0, 1) == 1 && ergo_change_approved(NULL, 0, 0) == 0);
+    assert(ergo_check_header_votes(NULL, 0) == 0 && ergo_check_headers(NULL, 0) == 0);
+    assert(ergo_tally_votes_seeded(0, NULL, 0, 0, 0, NULL, 0) == ERGO_OUTPUT_SHORT);
+    assert(ergo_check_fork_vote(NULL, 0, 0, NULL, 0, NULL, 0) == 0);
+    assert(ergo_compute_boundary_parameters(NULL, 0, NULL, 0, NULL, 0, NULL, 0) == ERGO_VOTING_LENGTH_ZERO);
+    assert(ergo_check_block_version(NULL, 0, 1) == ERGO_BLOCK_VERSION_ABSENT);
+    assert(ergo_check_body(NULL, 0) == ERGO_BODY_SHORT);
+    assert(ergo_parse_extension_bytes(NULL, 0, NULL, 0) == ERGO_BODY_SHORT);
+    assert(ergo_field_at(NULL, 0, 0, NULL, 0) == ERGO_FIELD_HEADER_CUT);
+    assert(ergo_parse_parameters_from_kv(NULL, 0, NULL, 0) == -ERGO_BODY_SHORT);
+    assert(ergo_extract_disabling_rules_from_kv(NULL, 0, NULL, 0) == 0);
+    assert(ergo_parse_validation_settings_update(NULL, 0, NULL, 0) == ERGO_OUTPUT_SHORT);
+    assert(ergo_rule_at(NULL, 0, 0, NULL, 0) == ERGO_UPDATE_UNREADABLE);
+    assert(ergo_status_at(NULL, 0, 0, NULL, 0) == ERGO_UPDATE_UNREADABLE);
+    assert(ergo_pack_extension_bytes(NULL, 0, NULL, 0, NULL, 0) == -ERGO_OUTPUT_SHORT);
+    assert(ergo_pack_parameters_to_kv(NULL, 0, NULL, 0) == 0);
+    assert(ergo_encode_validation_settings_update(NULL, 0, NULL, 0, NULL, 0, NULL, 0, NULL, 0, NULL, 0) ==
+           -ERGO_OUTPUT_SHORT);
+    assert(ergo_encode_disabled_rules(NULL, 0, NULL, 0) == -ERGO_OUTPUT_SHORT);
+    assert(ergo_open(1024, NULL, 0, NULL, 0) == ERGO_OUTPUT_SHORT);
+    assert(ergo_replay(NULL, 0, NULL, 0) == ERGO_RECORD_MALFORMED);
+    assert(ergo_read_record(NULL, 0, 0, NULL, 0) == 3);
+    assert(ergo_write_head(NULL, 0) == -ERGO_OUTPUT_SHORT);
+    assert(ergo_write_epoch(0, NULL, 0, NULL, 0) == -ERGO_OUTPUT_SHORT);
+    assert(ergo_write_end(0, 0, NULL, 0) == -ERGO_OUTPUT_SHORT);
+}
+
+static void outputs_that_are_too_short(void) {
+    uint8_t cells[ERGO_STATE_SIZE];
+    memset(cells, UNTOUCHED, sizeof cells);
+    assert(ergo_default_parameters(ERGO_TESTNET, cells, ERGO_TABLE_SIZE - 1) == ERGO_OUTPUT_SHORT);
+    assert(ergo_open(1024, table, sizeof table, cells, ERGO_STATE_SIZE - 1) == ERGO_OUTPUT_SHORT);
+    assert(ergo_write_end(1, 0, cells, 7) == -ERGO_OUTPUT_SHORT);
+    assert(untouched(cells, sizeof cells));
+    assert(ergo_write_end(1, 0, cells, sizeof cells) == 8);
+    assert(memcmp(cells, "end 1 0\n", 8) == 0 && untouched(cells + 8, sizeof cells - 8));
+}
+
+int main(void) {
+    assert(ergo_default_parameters(ERGO_MAINNET, table, sizeof table) == 0);
+    assert(ergo_voting_config(ERGO_MAINNET, settings, sizeof settings) == 0);
+    assert(ergo_number(settings + ERGO_SETTINGS_VERSION2_HEIGHT_AT) == 417792);
+    numbers();
+    tables();
+    tallies();
+    boundary();
+    states();
+    answers();
+    nothing_lent();
+    outputs_that_are_too_short();
+    puts("C: the tests passed");
+    return 0;
+}

@@ -1,0 +1,21 @@
+//! Votes of headers.
+
+use crate::ffi;
+use crate::refusal::{accepted, Refusal};
+use crate::settings::Settings;
+use crate::table::Table;
+
+/// Whether the votes of a header are legal: 9, 10, 11.
+pub fn check_header_votes(votes: [u8; 3]) -> Result<(), Refusal> {
+    accepted(ffi::ergo_check_header_votes(&votes))
+}
+
+/// The same of headers one after another, three bytes each: the first refusal. One or two bytes left over are no header.
+pub fn check_headers(votes: &[u8]) -> Result<(), Refusal> {
+    accepted(ffi::ergo_check_headers(votes))
+}
+
+/// Whether a header may vote for the fork at a height, by the table that rules its epoch: 18, 19, 12.
+pub fn check_fork_vote(settings: &Settings, height: u32, votes: [u8; 3], table: &Table) -> Result<(), Refusal> {
+    accepted(ffi::ergo_check_fork_vote(&settings.to_bytes(), height, &votes, &table.to_bytes()))
+}
