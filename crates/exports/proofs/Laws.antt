@@ -2,68 +2,62 @@
 use mathlib.Core.Path.{_≡_, refl, sym, ap, subst, _∙_}
 use mathlib.Core.Bool.{Bool, true, false, cond}
 use mathlib.Core.List.{List, _++_}
-use Prim.Native.Nat.{ℕ, zero, suc, _+_, _-_, _^_, _%_, _≤_}
+use Prim.Native.Nat.{ℕ, zero, suc, _+_, _-_, _*_, _^_, _≤_, _<_}
+use native.Mathlib.Nat.{mod-eq-of-lt}
 use native.Mathlib.Omega.{arith}
 use lib.Dec.{leb}
 use lib.ListN.{length, drop}
+use Rattle.codec.specs.Signed.{bitsOf, modulo}
 use Rattle.codec.specs.Refusal.{outputShort}
 use Rattle.codec.specs.Output.{Outcome, wrote, refused, outcome, writes, writing}
 use Rattle.codec.specs.declared.output.Wrote.{Wrote}
 use Rattle.codec.specs.declared.output.Wrote.the-variants.{Bytes, Refused}
 use Rattle.codec.proofs.Laws.Output.{writing-stop, writing-go}
 use Rattle.wire.specs.Put.{Written}
-use Rattle.exports.specs.Reply.{Reply, reply, minus, numbered, sized, numberOf, sizeOf, placeOf}
-use Rattle.exports.specs.Calls.{placed, networkOf}
+use Rattle.exports.specs.Reply.{Reply, reply, answered, numbered, sized, placed, answerOf, numberOf, sizeOf, placeOf, minus}
+use Rattle.exports.specs.Calls.{networkOf}
 use Rattle.voting.specs.declared.settings.Network.the-variants.{Testnet}
 
 -- a writer's answer
 module _ (w : Wrote) {r : ℕ} {after : List ℕ} {o : Outcome} where
-  pub numbered-is : r ≡ numberOf w → outcome w after ≡ o → reply r after ≡ numbered o
-  unfolding numbered numberOf
-  numbered-is e q = rw (← q) (go w e)
+  answered-is : (f g : ℕ → ℕ) → r ≡ answerOf f g w → outcome w after ≡ o → reply r after ≡ answered f g o
+  unfolding answered answerOf
+  answered-is f g e q = rw (← q) (go w e)
     where
-      go : (v : Wrote) → r ≡ numberOf v → reply r after ≡ numbered (outcome v after)
+      go : (v : Wrote) → r ≡ answerOf f g v → reply r after ≡ answered f g (outcome v after)
       go (Bytes n) p = rw p
       go (Refused n) p = rw p
+
+  pub numbered-is : r ≡ numberOf w → outcome w after ≡ o → reply r after ≡ numbered o
+  numbered-is = answered-is _ _
 
   pub sized-is : r ≡ sizeOf w → outcome w after ≡ o → reply r after ≡ sized o
-  unfolding sized sizeOf
-  sized-is e q = rw (← q) (go w e)
-    where
-      go : (v : Wrote) → r ≡ sizeOf v → reply r after ≡ sized (outcome v after)
-      go (Bytes n) p = rw p
-      go (Refused n) p = rw p
+  sized-is = answered-is _ _
 
   pub placed-is : r ≡ placeOf w → outcome w after ≡ o → reply r after ≡ placed o
-  unfolding placed placeOf
-  placed-is e q = rw (← q) (go w e)
-    where
-      go : (v : Wrote) → r ≡ placeOf v → reply r after ≡ placed (outcome v after)
-      go (Bytes n) p = rw p
-      go (Refused n) p = rw p
+  placed-is = answered-is _ _
 
 -- a refusal that comes before the writing, or none
 module _ (e n : ℕ) (q : e ≡ n) (bytes cells : List ℕ) where
+  stops-by : (f g : ℕ → ℕ) → (e ≡ 0 → ⊥) → reply (g e) cells ≡ answered f g (writing n bytes cells)
+  unfolding answered
+  stops-by f g d = rw (← q, ← writing-stop bytes cells e d)
+
   pub stops : (e ≡ 0 → ⊥) → reply e cells ≡ numbered (writing n bytes cells)
-  unfolding numbered
-  stops d = rw (← q, ← writing-stop bytes cells e d)
+  stops = stops-by _ _
 
   pub stops-sized : (e ≡ 0 → ⊥) → (r : ℕ) → r ≡ minus e → reply r cells ≡ sized (writing n bytes cells)
-  unfolding sized
-  stops-sized d r p = rw (p, ← q, ← writing-stop bytes cells e d)
+  stops-sized d r p = rw p (stops-by _ _ d)
 
   pub goes : e ≡ 0 → writes bytes cells ≡ writing n bytes cells
   goes z = rw (← q) (sym (writing-go bytes cells e z))
 
 -- an answer that is written, by another name
-pub through : {X : Type 0} (into : X → List ℕ → Outcome) {x y : X} {o : Reply} (cells : List ℕ) → o ≡ numbered (into x cells) → x ≡ y → o ≡ numbered (into y cells)
-through into cells p e = p ∙ ap (λ x. numbered (into x cells)) e
-
-pub through-sized : {X : Type 0} (into : X → List ℕ → Outcome) {x y : X} {o : Reply} (cells : List ℕ) → o ≡ sized (into x cells) → x ≡ y → o ≡ sized (into y cells)
-through-sized into cells p e = p ∙ ap (λ x. sized (into x cells)) e
-
 pub through-reply : {X : Type 0} (into : X → List ℕ → Reply) {x y : X} {o : Reply} (cells : List ℕ) → o ≡ into x cells → x ≡ y → o ≡ into y cells
 through-reply into cells p e = p ∙ ap (λ x. into x cells) e
+
+pub through : {X : Type 0} (into : X → List ℕ → Outcome) {x y : X} {o : Reply} (cells : List ℕ) → o ≡ numbered (into x cells) → x ≡ y → o ≡ numbered (into y cells)
+through into = through-reply (λ x cells. numbered (into x cells))
 
 -- where 0 is answered, a writer was not refused
 abbrev numberIn : Outcome → ℕ
@@ -71,7 +65,7 @@ numberIn (wrote n cells) = 1
 numberIn (refused e cells) = e
 
 pub was-written : (w : Wrote) (r : ℕ) (after bytes cells : List ℕ) → r ≡ 0 → r ≡ numberOf w → outcome w after ≡ writes bytes cells → Written w
-unfolding writes numberOf
+unfolding writes answerOf
 was-written (Bytes n) r after bytes cells z e q = tt
 was-written (Refused k) r after bytes cells z e q = absurd (never (leb (length bytes) (length cells)) (sym z ∙ e ∙ ap numberIn q ∙ both (leb (length bytes) (length cells))))
   where
@@ -85,8 +79,9 @@ was-written (Refused k) r after bytes cells z e q = absurd (never (leb (length b
 
 -- minus a number that is not 0
 pub minus-some : (e : ℕ) → (e ≡ 0 → ⊥) → e ≤ 255 → 0xffff_ffff_ffff_ffff - e + 1 ≡ minus e
-unfolding minus
-minus-some e d f = omega arith
+unfolding minus bitsOf modulo
+minus-some zero d f = absurd (d refl)
+minus-some (suc n) d f = let h : n < 2 ^ 64 = omega arith in rw (mod-eq-of-lt h) (omega arith)
 
 pub testnet-other : (n : ℕ) → (n ≡ 0 → ⊥) → Testnet ≡ networkOf n
 testnet-other zero d = absurd (d refl)

@@ -22,7 +22,7 @@ use Rattle.archive.proofs.Laws.Rounds.{KeepsBy, keeps}
 use Rattle.wire.specs.Put.{Written}
 use Rattle.wire.proofs.Back.{cellsOf, IsWrote}
 use Rattle.wire.specs.State.{stateAt, stateBytes}
-use Rattle.exports.specs.Reply.{Reply, reply, numbered, numberOf}
+use Rattle.exports.specs.Reply.{Reply, reply, withId, Told, answered, numbered, answerOf, numberOf}
 use Rattle.exports.specs.Calls.{verdictCode, replayedInto}
 use Rattle.exports.specs.Replays.{Replays, CallsOn, Onward}
 
@@ -31,7 +31,7 @@ cellsIn (reply r cells) = cells
 
 -- bytes that fit are written: 0 is answered
 pub zero-written : (w : Wrote) (r : ℕ) (after bytes cells : List ℕ) → length bytes ≤ length cells → r ≡ numberOf w → outcome w after ≡ writes bytes cells → r ≡ 0
-unfolding writes numberOf
+unfolding writes answerOf
 zero-written (Bytes n) r after bytes cells f e q = e
 zero-written (Refused k) r after bytes cells f e q = absurd (go (leb (length bytes) (length cells)) (le-leb _ _ f) q)
   where
@@ -51,7 +51,7 @@ room (Bytes n) after bytes cells t q = go (leb (length bytes) (length cells)) q
 
 -- the cells after an answer: as many as before
 pub same-room : (n r : ℕ) (after bytes cells : List ℕ) → reply r after ≡ numbered (writing n bytes cells) → length after ≡ length cells
-unfolding numbered writing writes
+unfolding answered writing writes
 same-room zero r after bytes cells p = go (leb (length bytes) (length cells)) refl p
   where
     go : (b : Bool) → leb (length bytes) (length cells) ≡ b → reply r after ≡ numbered (cond b (wrote (length bytes) (bytes ++ drop (length bytes) cells)) (refused outputShort cells)) → length after ≡ length cells
@@ -63,7 +63,7 @@ same-room (suc n) r after bytes cells p = ap length (ap cellsIn p)
 
 -- a refused record leaves the cells, and the state that they hold
 kept-cells : (n r : ℕ) (after bytes cells : List ℕ) → reply r after ≡ numbered (writing (suc n) bytes cells) → after ≡ cells
-unfolding numbered writing
+unfolding answered writing
 kept-cells n r after bytes cells p = ap cellsIn p
 
 kept-state : (s : Replay) (v : Verdict) (t : Replay) → KeepsBy s v t → (verdictCode v ≡ 0 → ⊥) → t ≡ s
@@ -72,6 +72,20 @@ kept-state s Accepted t k d = absurd (d refl)
 kept-state s (RefusedBy n) t k d = k
 kept-state s (Mismatch id) t k d = k
 
+-- the answer, by the verdict of a record that was replayed
+module _ {r n i : ℕ} (x : Replayed) (p : n ≡ verdictNumber (x .verdict)) (q : i ≡ verdictId (x .verdict)) where
+  pub code-is : r ≡ withId n i → r ≡ verdictCode (x .verdict)
+  unfolding verdictCode
+  code-is e = rw (← p, ← q) e
+
+  pub told-by : Told r n i → (y : Replayed) → x ≡ y → (a : ℕ) → a ≡ r → Told a (verdictNumber (y .verdict)) (verdictId (y .verdict))
+  told-by t y e a z = rw (z, ← e, ← p, ← q) t
+
+-- an accepted record is answered by 0
+none : {r : ℕ} (v : Verdict) → Told r (verdictNumber v) (verdictId v) → verdictCode v ≡ 0 → r ≡ 0
+unfolding verdictCode
+none v t e = omega (arith, t .number-is, t .id-is, e)
+
 -- one call: the next state is read, and the cells are still enough
 module _ (before rec : List ℕ) (r : ℕ) (after : List ℕ) (p : Replays before rec r after) (f : 95 ≤ length before) where
   pub call-reads : stateAt after 0 ≡ replayOf (stateAt before 0) rec .state
@@ -79,7 +93,7 @@ module _ (before rec : List ℕ) (r : ℕ) (after : List ℕ) (p : Replays befor
   call-reads = go (verdictCode (replayOf (stateAt before 0) rec .verdict)) refl (p .answers)
     where
       go : (n : ℕ) → verdictCode (replayOf (stateAt before 0) rec .verdict) ≡ n → reply r after ≡ numbered (writing n (stateBytes (replayOf (stateAt before 0) rec .state)) before) → stateAt after 0 ≡ replayOf (stateAt before 0) rec .state
-      go zero e q = p .next-reads (p .fits f e)
+      go zero e q = p .next-reads (none (replayOf (stateAt before 0) rec .verdict) (p .told f) e)
       go (suc n) e q =
           ap (λ (cells : List ℕ). stateAt cells 0) (kept-cells n r after _ before q)
           ∙ sym (kept-state (stateAt before 0) (replayOf (stateAt before 0) rec .verdict) (replayOf (stateAt before 0) rec .state) (keeps (stateAt before 0) rec) (λ z. absurd (let y : suc n ≡ 0 = sym e ∙ z in omega arith)))

@@ -1,10 +1,10 @@
 -- Calls over lent bytes, each by what its bytes stand for. docs/VECTORS.md, "Bytes", has the bytes.
 -- Assumes nothing.
-use Prim.Native.Nat.{ℕ, zero, suc, _+_, _*_}
+use Prim.Native.Nat.{ℕ, zero, suc}
 use mathlib.Core.Bool.{Bool, cond}
 use mathlib.Core.List.{List}
 use Rattle.codec.specs.Refusal.{recordMalformed}
-use Rattle.codec.specs.Output.{Outcome, wrote, refused, writes, writing}
+use Rattle.codec.specs.Output.{Outcome, refused, writes, writing}
 use Rattle.voting.specs.declared.settings.Network.{Network}
 use Rattle.voting.specs.declared.settings.Network.the-variants.{Mainnet, Testnet}
 use Rattle.voting.specs.declared.settings.VotingConfig.{VotingConfig}
@@ -35,7 +35,7 @@ use Rattle.wire.specs.State.{stateBytes}
 use Rattle.wire.specs.Places.{sectionBytes, updateBytes, fieldBytes, ruleBytes, statusBytes, recordBytes}
 use Rattle.wire.specs.Map.{mapBytes}
 use Rattle.wire.specs.Boundary.{questionOf, computedBytes}
-use Rattle.exports.specs.Reply.{Reply, reply, minus}
+use Rattle.exports.specs.Reply.{Reply, reply, minus, placed, withId}
 
 -- a network's number: 0 is mainnet, any other testnet
 abbrev pub networkOf : ℕ → Network
@@ -50,10 +50,7 @@ settingsOf Testnet = testnet
 abbrev pub flag : Bool → ℕ
 flag b = cond b 1 0
 
--- a refusal's number, and 256 times the id of 15
-abbrev pub withId : ℕ → ℕ → ℕ
-withId number id = number + 256 * id
-
+-- the number and the id of a match and of a verdict
 unfoldable pub matchedCode : Matched → ℕ
 matchedCode m = withId (m .refusal) (m .id)
 
@@ -95,10 +92,6 @@ statusInto (HasStatus x) cells = writes (statusBytes x) cells
 statusInto (NoStatus e) cells = refused e cells
 
 -- a record that is whole: 0, and its place is written; so many bytes at least are missing; minus 25
-unfoldable pub placed : Outcome → Reply
-placed (wrote n cells) = reply 0 cells
-placed (refused e cells) = reply (minus e) cells
-
 unfoldable pub recordReply : RecordAt → List ℕ → Reply
 recordReply (Whole p) cells = placed (writes (recordBytes p) cells)
 recordReply (Short n) cells = reply n cells

@@ -4,19 +4,19 @@ use Prim.Native.Nat.{ℕ, _≤_}
 use mathlib.Core.Path.{_≡_}
 use mathlib.Core.List.{List, [], _∷_}
 use lib.ListN.{length}
-use Rattle.archive.specs.Replay.{replayOf}
+use Rattle.archive.specs.Replay.{replayOf, verdictNumber, verdictId}
 use Rattle.archive.specs.Rounds.{stateAfter}
 use Rattle.archive.specs.declared.replay.Replay.{Replay}
 use Rattle.wire.specs.State.{stateAt}
-use Rattle.exports.specs.Reply.{reply, numbered}
-use Rattle.exports.specs.Calls.{verdictCode, replayedInto}
+use Rattle.exports.specs.Reply.{reply, numbered, Told}
+use Rattle.exports.specs.Calls.{replayedInto}
 
 -- a record on the state that the cells hold: the answer, and the cells before and after. Where 0 is answered, the cells hold the very state
--- that the definition gives; and 0 is answered of every accepted record, if the cells are enough for a state
+-- that the definition gives; and if the cells are enough for a state, the answer tells the verdict's number and id
 pub record Replays (before rec : List ℕ) (r : ℕ) (after : List ℕ) : Type 0 where
   pub answers : reply r after ≡ numbered (replayedInto (replayOf (stateAt before 0) rec) before)
   pub next-reads : r ≡ 0 → stateAt after 0 ≡ replayOf (stateAt before 0) rec .state
-  pub fits : 95 ≤ length before → verdictCode (replayOf (stateAt before 0) rec .verdict) ≡ 0 → r ≡ 0
+  pub told : 95 ≤ length before → Told r (verdictNumber (replayOf (stateAt before 0) rec .verdict)) (verdictId (replayOf (stateAt before 0) rec .verdict))
 
 -- calls one after another on the same cells, up to the last content
 abbrev pub CallsOn : List ℕ → List (List ℕ) → List ℕ → Type 0

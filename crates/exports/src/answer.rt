@@ -1,7 +1,7 @@
-// A writer's answer, and a flag, in one number.
+// A writer's answer, a refusal with the id of 15, and a flag, in one number.
 use codec::output::Wrote;
 ghost use mathlib.Core.Path.{_≡_};
-ghost use Rattle.exports.specs.Reply.{minus, numberOf, sizeOf, placeOf};
+ghost use Rattle.exports.specs.Reply.{minus, numberOf, sizeOf, placeOf, withId, Told};
 ghost use Rattle.exports.specs.Calls.{flag};
 
 pub(crate) fn number_of(w: Wrote) -> u8
@@ -44,4 +44,11 @@ pub(crate) fn flag_of(b: bool) -> u8
     ensures { λ r. ⌜ r ≡ flag b ⌝ }
 {
     if b { 1 } else { 0 }
+}
+
+pub(crate) fn with_id(number: u8, id: u8) -> u16
+    ensures { λ r. ⌜ r ≡ withId number id ⌝ }
+    ensures told { λ r. ⌜ Told r number id ⌝ }
+{
+    (number as u16) + 256 * (id as u16)
 }

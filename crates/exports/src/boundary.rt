@@ -2,7 +2,6 @@
 use crate::answer;
 use extension::boundary::Computed;
 use extension::parameters;
-use extension::parameters::Matched;
 use lent::boundary;
 use voting::table;
 use voting::tally::Entry;
@@ -14,7 +13,7 @@ ghost use Rattle.voting.specs.Table.{checkBlockVersion};
 ghost use Rattle.extension.specs.Parameters.{checkParameters};
 ghost use Rattle.wire.specs.Values.{tableAt};
 ghost use Rattle.wire.specs.Map.{mapOf};
-ghost use Rattle.exports.specs.Reply.{reply, numbered};
+ghost use Rattle.exports.specs.Reply.{reply, numbered, Told};
 ghost use Rattle.exports.specs.Calls.{computedInto, boundaryOf, matchedCode};
 
 fn write_computed(out: &mut [u8], x: Computed) -> u8
@@ -43,21 +42,16 @@ pub extern "C" fn ergo_compute_boundary_parameters(
     )
 }
 
-fn code_of(m: Matched) -> u16
-    ensures { λ r. ⌜ r ≡ matchedCode m ⌝ }
-{
-    (m.refusal as u16) + 256 * (m.id as u16)
-}
-
 // Whether a computed table stands, equal, among a body's parameters: 0, or 15 and 256 times the least id that differs.
 #[no_mangle]
 pub extern "C" fn ergo_check_parameters_v6(table: &[u8], parameters: &[u8]) -> u16
     ensures { λ r. ⌜ r ≡ matchedCode (checkParameters (tableAt (now (table .entry)) 0) (mapOf (now (parameters .entry)))) ⌝ }
+    ensures told { λ r. ⌜ Told r (checkParameters (tableAt (now (table .entry)) 0) (mapOf (now (parameters .entry))) .refusal) (checkParameters (tableAt (now (table .entry)) 0) (mapOf (now (parameters .entry))) .id) ⌝ }
 {
     let t = values::table_of(table);
     let m = map::map_of(parameters);
     let x = parameters::check_parameters_v6(t, m);
-    code_of(x)
+    answer::with_id(x.refusal, x.id)
 }
 
 // Whether a block has the table's version: 0, or 16, 20.

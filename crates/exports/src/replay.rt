@@ -1,7 +1,6 @@
 // A replay: the opening, and a record.
 use crate::answer;
 use archive::replay;
-use archive::replay::Verdict;
 use wire::state as states;
 use wire::values;
 ghost use mathlib.Core.Path.{_≡_};
@@ -9,7 +8,7 @@ ghost use Rattle.archive.specs.Replay.{openOf};
 ghost use Rattle.wire.specs.Values.{tableAt};
 ghost use Rattle.wire.specs.State.{stateAt};
 ghost use Rattle.exports.specs.Reply.{reply, numbered};
-ghost use Rattle.exports.specs.Calls.{openedInto, verdictCode};
+ghost use Rattle.exports.specs.Calls.{openedInto};
 ghost use Rattle.exports.specs.Replays.{Replays, Onward};
 
 // Opens a replay on mainnet's settings, at a height and with a table, into a state. 0, or 26, or 21.
@@ -27,14 +26,6 @@ pub extern "C" fn ergo_open(height: u32, table: &[u8], state: &mut [u8]) -> u8
     answer::number_of(states::write_state(opened, state))
 }
 
-fn code_of(v: Verdict) -> u16
-    ensures { λ r. ⌜ r ≡ verdictCode v ⌝ }
-{
-    let number = v.number();
-    let id = v.id();
-    (number as u16) + 256 * (id as u16)
-}
-
 // Replays a record on a state, which becomes the state after it. 0, or the refusal's number, and for 15 also 256 times the least id that
 // differs.
 #[no_mangle]
@@ -45,7 +36,7 @@ pub extern "C" fn ergo_replay(state: &mut [u8], rec: &[u8]) -> u16
     let x = before.replay(rec);
     let verdict = x.verdict;
     let after = x.state;
-    let code = code_of(verdict);
+    let code = answer::with_id(verdict.number(), verdict.id());
     if code != 0 {
         return code;
     }

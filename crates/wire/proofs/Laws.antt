@@ -20,7 +20,7 @@ use Rattle.voting.specs.declared.table.Slot.{Slot}
 use Rattle.voting.specs.declared.tally.Entry.{Entry}
 use Rattle.voting.specs.Table.{slot}
 use Rattle.wire.specs.Put.{Put}
-use Rattle.wire.specs.Numbers.{numberBytes, numberAt, fourBytes}
+use Rattle.wire.specs.Numbers.{bytesAt, numberBytes, numberAt, fourBytes}
 use Rattle.wire.specs.Values.{marked, valueBytes, valueOf, valueAt, slotsBytes, slotsAt, entryBytes}
 
 -- a piece, and what is put behind it; and another piece behind it
@@ -101,6 +101,18 @@ slots-more slots i k bytes v h q =
 pub slots-read : (slots : List Slot) (i k : ℕ) (bytes : List ℕ) → 9 ≤ i → sets slots i (slotsAt (9 - i) bytes k) ≡ slots
 unfolding slotsAt
 slots-read slots i k bytes h = let e : 9 - i ≡ 0 = omega arith in rw e
+
+-- a header's id, read: one byte, and then the others; all of them
+pub id-more : (cells bytes : List ℕ) (i b : ℕ) → i < 32 → b ≡ getD bytes i 0
+    → sets (set cells i b) (i + 1) (bytesAt (32 - (i + 1)) bytes (i + 1)) ≡ sets cells i (bytesAt (32 - i) bytes i)
+unfolding bytesAt
+id-more cells bytes i b h q =
+    let e : 32 - i ≡ suc (32 - (i + 1)) = omega arith in
+    rw (e, q, add-one i)
+
+pub id-read : (cells bytes : List ℕ) (i : ℕ) → 32 ≤ i → sets cells i (bytesAt (32 - i) bytes i) ≡ cells
+unfolding bytesAt
+id-read cells bytes i h = let e : 32 - i ≡ 0 = omega arith in rw e
 
 -- an entry's bytes
 pub entry-bytes : (e : Entry) (b : ℕ) → b ≡ bitsOf 8 (e .id) → marked b (e .count) ≡ entryBytes e

@@ -30,18 +30,6 @@ use Rattle.wire.specs.Numbers.{bytesAt, numberBytes}
 use Rattle.wire.specs.Values.{marked}
 use Rattle.wire.specs.Map.{presentBytes, presentFrom, mapBytes, mapIn, mapOf, MapBack}
 
--- a header's id, read: one byte, and then the others; all of them
-pub id-more : (cells bytes : List ℕ) (i b : ℕ) → i < 32 → b ≡ getD bytes i 0
-    → sets (set cells i b) (i + 1) (bytesAt (32 - (i + 1)) bytes (i + 1)) ≡ sets cells i (bytesAt (32 - i) bytes i)
-unfolding bytesAt
-id-more cells bytes i b h q =
-    let e : 32 - i ≡ suc (32 - (i + 1)) = omega arith in
-    rw (e, q, add-one i)
-
-pub id-read : (cells bytes : List ℕ) (i : ℕ) → 32 ≤ i → sets cells i (bytesAt (32 - i) bytes i) ≡ cells
-unfolding bytesAt
-id-read cells bytes i h = let e : 32 - i ≡ 0 = omega arith in rw e
-
 -- the bytes of one id
 module _ (id : ℕ) where
   pub present-none : (v : Value) → v ≡ Absent → presentBytes id v ≡ []

@@ -24,7 +24,7 @@ pub fn map_of(bytes: &[u8]) -> ParameterMap
         let number = [bytes[at + 1], bytes[at + 2], bytes[at + 3], bytes[at + 4]];
         let z = big_endian::i32_from_be_bytes(number);
         m = m.with(bytes[at], Value::Number(z));
-        at += 5;
+        at += PRESENT_SIZE;
     }
     m
 }

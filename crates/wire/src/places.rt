@@ -15,6 +15,34 @@ ghost use Rattle.codec.specs.Output.{outcome, writes};
 ghost use Rattle.wire.specs.Put.{Put, Back, Written};
 ghost use Rattle.wire.specs.Places.{sectionAt, sectionBytes, updateAt, updateBytes, fieldBytes, ruleBytes, statusBytes, recordBytes, Narrow};
 
+pub fn section_of(bytes: &[u8]) -> Section
+    ensures { λ r. ⌜ r ≡ sectionAt (now (bytes .entry)) 0 ⌝ }
+{
+    section_at(bytes, 0)
+}
+
+pub fn update_of(bytes: &[u8]) -> Update
+    ensures { λ r. ⌜ r ≡ updateAt (now (bytes .entry)) 0 ⌝ }
+{
+    let rules = section_at(bytes, 0);
+    let statuses = section_at(bytes, 12);
+    Update { rules, statuses }
+}
+
+fn section_at(bytes: &[u8], at: usize) -> Section
+    requires { ⌜ at ≤ 3000 ⌝ }
+    ensures { λ r. ⌜ r ≡ sectionAt (now (bytes .entry)) at ⌝ }
+{
+    let count = numbers::u32_at(bytes, at);
+    let begin = numbers::u32_at(bytes, at + 4);
+    let end = numbers::u32_at(bytes, at + 8);
+    Section {
+        count,
+        begin: begin as usize,
+        end: end as usize,
+    }
+}
+
 pub fn write_section(s: Section, out: &mut [u8]) -> Wrote
     ensures { λ r. ⌜ outcome r (now (out .exit)) ≡ writes (sectionBytes s) (now (out .entry)) ⌝ }
     ensures reads_back { λ r. ⌜ (Written r → Narrow s → sectionAt (now (out .exit)) 0 ≡ s) ⌝ }

@@ -17,6 +17,12 @@ ghost use Rattle.codec.specs.Output.{outcome, writes};
 ghost use Rattle.wire.specs.Put.{Put, Back, Written};
 ghost use Rattle.wire.specs.Values.{marked, valueAt, valueBytes, slotsAt, slotsBytes, forkAt, forkBytes, tableAt, tableBytes, settingsAt, settingsBytes, entryAt, entryBytes, tallyAt, tallyBytes};
 
+pub fn value_of(bytes: &[u8]) -> Value
+    ensures { λ r. ⌜ r ≡ valueAt (now (bytes .entry)) 0 ⌝ }
+{
+    value_at(bytes, 0)
+}
+
 pub fn table_of(bytes: &[u8]) -> Table
     ensures { λ r. ⌜ r ≡ tableAt (now (bytes .entry)) 0 ⌝ }
 {
@@ -27,6 +33,12 @@ pub fn settings_of(bytes: &[u8]) -> VotingConfig
     ensures { λ r. ⌜ r ≡ settingsAt (now (bytes .entry)) 0 ⌝ }
 {
     settings_at(bytes, 0)
+}
+
+pub fn tally_of(bytes: &[u8]) -> Tally
+    ensures { λ r. ⌜ r ≡ tallyAt (now (bytes .entry)) 0 ⌝ }
+{
+    tally_at(bytes, 0)
 }
 
 pub fn write_value(v: Value, out: &mut [u8]) -> Wrote

@@ -1,3 +1,4 @@
+use Rattle.codec.specs.Signed.{bitsOf, modulo}
 use Rattle.exports.proofs.Laws.{minus-some}
 use Rattle.exports.specs.Reply.{minus}
 use borrow.Author.Needs.{needs}
@@ -5,7 +6,7 @@ use Rattle.exports.proofs.answer.minus.Statement.{statement}
 use Rattle.exports.proofs.answer.minus.Tie as tie
 
 returns : tie.Need-returns
-unfolding minus
+unfolding minus bitsOf modulo
 returns c = rw (c .if1 .taken)
 
 sub-result : tie.Need-sub-result

@@ -1,4 +1,4 @@
-use Rattle.exports.specs.Reply.{numberOf}
+use Rattle.exports.specs.Reply.{answerOf}
 use mathlib.Core.Path.{_≡_, refl, sym, ap, _∙_}
 use borrow.Author.Needs.{needs}
 use Rattle.exports.proofs.answer.number_of.Statement.{statement}
@@ -11,11 +11,11 @@ enum-known-w : tie.Need-enum-known-w
 enum-known-w c = search needs
 
 returns : tie.Need-returns
-unfolding numberOf
+unfolding answerOf
 returns c = sym (rw (c .enum-told .given .1))
 
 returns-2 : tie.Need-returns-2
-unfolding numberOf
+unfolding answerOf
 returns-2 c = sym (rw (c .before .w .given .1))
 
 pub number-of-spec : {M : Type 1} → statement M

@@ -1,4 +1,4 @@
-use Rattle.exports.specs.Reply.{placeOf}
+use Rattle.exports.specs.Reply.{answerOf}
 use mathlib.Core.Path.{_≡_, refl, sym, ap, _∙_}
 use borrow.Author.Needs.{needs}
 use Rattle.exports.proofs.answer.place_of.Statement.{statement}
@@ -14,11 +14,11 @@ minus-requires : tie.Need-minus-requires
 minus-requires c κs = search needs
 
 returns : tie.Need-returns
-unfolding placeOf
+unfolding answerOf
 returns c = sym (rw (c .enum-told .given .1))
 
 returns-2 : tie.Need-returns-2
-unfolding placeOf
+unfolding answerOf
 returns-2 c = c .minus .ensures ∙ sym (rw (c .before .before .w .given .1))
 
 pub place-of-spec : {M : Type 1} → statement M

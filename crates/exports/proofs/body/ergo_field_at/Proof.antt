@@ -1,4 +1,4 @@
-use Rattle.exports.specs.Reply.{numbered}
+use Rattle.exports.specs.Reply.{answered}
 use Rattle.exports.specs.Calls.{fieldInto}
 use mathlib.Core.Path.{_≡_, refl, sym, ap, _∙_}
 use Rattle.exports.proofs.Laws.{through, numbered-is}
@@ -29,7 +29,7 @@ unfolding fieldInto
 returns c = through fieldInto _ (numbered-is ((c .before .before .before .write-field) .result) ((c .number-of) .ensures) ((c .before .before .before .write-field) .ensures .0)) (sym ((c .before .before .before .before .before .before .f) .given .1) ∙ (c .before .before .before .before .before .before .before .before .field-at) .ensures)
 
 returns-2 : tie.Need-returns-2
-unfolding fieldInto numbered
+unfolding fieldInto answered
 returns-2 c = through fieldInto _ refl (sym ((c .before .e) .given .1) ∙ (c .before .before .before .field-at) .ensures)
 
 pub ergo-field-at-spec : {M : Type 1} → statement M

@@ -1,6 +1,7 @@
+use Rattle.exports.specs.Reply.{sized}
 use Rattle.exports.specs.Calls.{parametersInto}
 use mathlib.Core.Path.{_≡_, refl, sym, ap, _∙_}
-use Rattle.exports.proofs.Laws.{through-sized, stops-sized, sized-is, goes}
+use Rattle.exports.proofs.Laws.{through-reply, stops-sized, sized-is, goes}
 use borrow.Author.Needs.{needs}
 use Rattle.exports.proofs.body.ergo_parse_parameters_from_kv.Statement.{statement}
 use Rattle.exports.proofs.body.ergo_parse_parameters_from_kv.Tie as tie
@@ -13,7 +14,7 @@ minus-requires c κs = search needs
 
 returns : tie.Need-returns
 unfolding parametersInto
-returns c = through-sized parametersInto _ (stops-sized _ _ refl _ _ ((c .before .if1) .taken) _ ((c .minus) .ensures)) ((c .before .before .before .before .parse-parameters-from-kv) .ensures)
+returns c = through-reply (λ x cells. sized (parametersInto x cells)) _ (stops-sized _ _ refl _ _ ((c .before .if1) .taken) _ ((c .minus) .ensures)) ((c .before .before .before .before .parse-parameters-from-kv) .ensures)
 
 write-map-requires : tie.Need-write-map-requires
 write-map-requires c κs = search needs
@@ -26,7 +27,7 @@ same-length c = search needs
 
 returns-2 : tie.Need-returns-2
 unfolding parametersInto
-returns-2 c = through-sized parametersInto _ (sized-is ((c .before .before .before .write-map) .result) ((c .size-of) .ensures) ((c .before .before .before .write-map) .ensures .0 ∙ goes _ _ refl _ _ ((c .before .before .before .before .before .if1) .left))) ((c .before .before .before .before .before .before .before .before .parse-parameters-from-kv) .ensures)
+returns-2 c = through-reply (λ x cells. sized (parametersInto x cells)) _ (sized-is ((c .before .before .before .write-map) .result) ((c .size-of) .ensures) ((c .before .before .before .write-map) .ensures .0 ∙ goes _ _ refl _ _ ((c .before .before .before .before .before .if1) .left))) ((c .before .before .before .before .before .before .before .before .parse-parameters-from-kv) .ensures)
 
 pub ergo-parse-parameters-from-kv-spec : {M : Type 1} → statement M
 ergo-parse-parameters-from-kv-spec =

@@ -1,4 +1,4 @@
-use Rattle.exports.specs.Reply.{numbered}
+use Rattle.exports.specs.Reply.{answered}
 use Rattle.exports.specs.Calls.{ruleInto}
 use mathlib.Core.Path.{_≡_, refl, sym, ap, _∙_}
 use Rattle.exports.proofs.Laws.{through, numbered-is}
@@ -29,7 +29,7 @@ unfolding ruleInto
 returns c = through ruleInto _ (numbered-is ((c .before .before .before .write-rule) .result) ((c .number-of) .ensures) ((c .before .before .before .write-rule) .ensures .0)) (sym ((c .before .before .before .before .before .before .x) .given .1) ∙ (c .before .before .before .before .before .before .before .before .rule-at) .ensures)
 
 returns-2 : tie.Need-returns-2
-unfolding ruleInto numbered
+unfolding ruleInto answered
 returns-2 c = through ruleInto _ refl (sym ((c .before .e) .given .1) ∙ (c .before .before .before .rule-at) .ensures)
 
 pub ergo-rule-at-spec : {M : Type 1} → statement M

@@ -1,4 +1,4 @@
-use Rattle.exports.specs.Reply.{numbered}
+use Rattle.exports.specs.Reply.{answered}
 use Rattle.exports.specs.Calls.{statusInto}
 use mathlib.Core.Path.{_≡_, refl, sym, ap, _∙_}
 use Rattle.exports.proofs.Laws.{through, numbered-is}
@@ -29,7 +29,7 @@ unfolding statusInto
 returns c = through statusInto _ (numbered-is ((c .before .before .before .write-status) .result) ((c .number-of) .ensures) ((c .before .before .before .write-status) .ensures .0)) (sym ((c .before .before .before .before .before .before .x) .given .1) ∙ (c .before .before .before .before .before .before .before .before .status-at) .ensures)
 
 returns-2 : tie.Need-returns-2
-unfolding statusInto numbered
+unfolding statusInto answered
 returns-2 c = through statusInto _ refl (sym ((c .before .e) .given .1) ∙ (c .before .before .before .status-at) .ensures)
 
 pub ergo-status-at-spec : {M : Type 1} → statement M

@@ -6,7 +6,7 @@ use lib.ListN.{length}
 use lib.Seq.{sets}
 use borrow.Author.Needs.{needs}
 use Rattle.wire.specs.Numbers.{bytesAt}
-use Rattle.wire.proofs.MapLaws.{id-more, id-read}
+use Rattle.wire.proofs.Laws.{id-more, id-read}
 use Rattle.wire.proofs.numbers.header_id_of.Statement.{statement}
 use Rattle.wire.proofs.numbers.header_id_of.Tie as tie
 
