@@ -1,8 +1,10 @@
 -- The rules that may not be disabled. docs/RULES.md, "Settings update".
 -- Assumes nothing.
-use Prim.Native.Nat.{ℕ}
+use Prim.Native.Nat.{ℕ, zero, suc}
 use mathlib.Core.Bool.{Bool, false, _&&_, _||_}
-use lib.Dec.{leb, eqb}
+use mathlib.Core.List.{List, [], _∷_}
+use lib.Dec.{ltb, leb, eqb}
+use lib.ListN.{getD}
 use lib.IntN.{ℤ, pos, negsuc}
 
 abbrev pub from : ℕ → ℕ → ℕ → Bool
@@ -17,3 +19,19 @@ mandatoryRule id =
 unfoldable pub mandatory : ℤ → Bool
 mandatory (pos id) = mandatoryRule id
 mandatory (negsuc n) = false
+
+-- The code's table. No promise of a public function speaks of it; `flag-of` (proofs/Laws/Mandatory.antt) joins it to
+-- `mandatoryRule`.
+
+-- the flags of n rules from id on
+abbrev pub flagsFrom : ℕ → ℕ → List Bool
+flagsFrom id zero = []
+flagsFrom id (suc n) = mandatoryRule id ∷ flagsFrom (suc id) n
+
+-- the flags of the rules 0 to 511
+unfoldable pub mandatoryFlags : List Bool
+mandatoryFlags = flagsFrom 0 512
+
+-- what such a table says of a rule: false past its end
+unfoldable pub flagIn : List Bool → ℕ → Bool
+flagIn flags id = ltb id 512 && getD flags id false
