@@ -492,7 +492,8 @@ fn update_edges() {
     println!("# edges: every cut of an update");
     updates.iter().filter(|s| s.len() > 11).for_each(|s| update_row(0x39, s));
     println!("# edges: ids and mandatory rules, below 0 and past 16 bits");
-    for id in [i32::MIN, -65536, -501, -100, -1, 0, 65535, 65536, 65636, 131072 + 214, 1 << 30, i32::MAX] {
+    let wrapped = [i32::MIN, -65536 + 403, -65536, -32768, 65536, 65536 + 100, 65536 + 403, 131072 + 214, 1 << 30, i32::MAX];
+    for id in [-501, -100, -1, 0, 511, 512, 32767, 65535].into_iter().chain(wrapped) {
         bytes().number(id as u32).gives(0x2f, bytes().flag(is_mandatory(id)));
     }
     for id in (95..=125).chain(198..=218).chain(298..=310).chain(400..=412).chain(498..=503) {

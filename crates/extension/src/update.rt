@@ -282,12 +282,13 @@ fn statuses_section(bytes: &[u8], count: u32, begin: usize) -> Parsed
 fn any_mandatory(bytes: &[u8], rules: Section) -> bool
     ensures { λ r. ⌜ r ≡ any mandatoryRule (sectionItems (readRule (now (bytes .entry))) rules) ⌝ }
 {
+    let flags = mandatory::mandatory_flags();
     let mut at = rules.begin;
     let mut left = rules.count;
     while 0 < left {
         match read_rule(bytes, at) {
             RuleAt::HasRule(x) => {
-                if mandatory::mandatory_rule(x.id as u32) {
+                if mandatory::flag_in(&flags, x.id as u32) {
                     return true;
                 }
                 at = x.next;

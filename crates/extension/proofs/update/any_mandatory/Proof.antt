@@ -1,4 +1,5 @@
 -- `extension::update::any_mandatory` meets its contract. Assumes nothing.
+use Rattle.extension.proofs.Laws.Mandatory.{flag-of}
 use Rattle.extension.proofs.Laws.Section.{listing-none, listing-stop, listing-item, items-done, items-stop, items-item, any-none, any-found, any-passed}
 use Rattle.extension.proofs.Laws.Update.{rule-read, rule-unread}
 use Rattle.extension.specs.Mandatory.{mandatoryRule}
@@ -10,10 +11,13 @@ use Rattle.extension.proofs.update.any_mandatory.Statement.{statement}
 use Rattle.extension.proofs.update.any_mandatory.Tie as tie
 
 abbrev Inv-loop : tie.InvT-loop
-Inv-loop bytes at₀ left₀ at left = any mandatoryRule (items (listing (readRule bytes) left at)) ≡ any mandatoryRule (items (listing (readRule bytes) left₀ at₀))
+Inv-loop bytes flags at₀ left₀ at left = any mandatoryRule (items (listing (readRule bytes) left at)) ≡ any mandatoryRule (items (listing (readRule bytes) left₀ at₀))
 
 abbrev μ-loop : tie.MeasureT-loop
-μ-loop bytes at₀ left₀ at left = left
+μ-loop bytes flags at₀ left₀ at left = left
+
+mandatory-flags-requires : tie.Need-mandatory-flags-requires Inv-loop μ-loop
+mandatory-flags-requires c κs = search needs
 
 loop-holds : tie.Need-loop-holds Inv-loop μ-loop
 loop-holds c = search needs
@@ -24,24 +28,31 @@ read-rule-requires c κs = search needs
 enum-known-x : tie.Need-enum-known-x Inv-loop μ-loop
 enum-known-x c = search needs
 
-cast-mandatory-rule : tie.Need-cast-mandatory-rule Inv-loop μ-loop
-cast-mandatory-rule c = search needs
+cast-flag-in : tie.Need-cast-flag-in Inv-loop μ-loop
+cast-flag-in c = search needs
 
-mandatory-rule-requires : tie.Need-mandatory-rule-requires Inv-loop μ-loop
-mandatory-rule-requires c κs = search needs
+flag-in-requires : tie.Need-flag-in-requires Inv-loop μ-loop
+flag-in-requires c κs = search needs
 
 returns : tie.Need-returns Inv-loop μ-loop
 unfolding sectionItems
 returns c =
-    any-found _ _ _ _ (items-item _ _ _ (listing-item _ _ _ (c .before .before .before .before .before .before .before .loop-test .taken) _ _ (rule-read _ _ _ (sym (c .before .before .before .before .x .given .1) ∙ c .before .before .before .before .before .before .read-rule .ensures)))) (sym (c .before .mandatory-rule .ensures) ∙ c .if1 .taken)
-    ∙ c .before .before .before .before .before .before .before .before .loop .inv
+    let x = c .before .before .before .before .before in
+    let read = x .before .before in
+    let loop = read .before .before in
+    any-found _ _ _ _ (items-item _ _ _ (listing-item _ _ _ (read .before .loop-test .taken) _ _ (rule-read _ _ _ (sym (x .x .given .1) ∙ read .read-rule .ensures))))
+    (sym (c .before .flag-in .ensures ∙ flag-of _ _ (loop .before .mandatory-flags .ensures)) ∙ c .if1 .taken)
+    ∙ loop .loop .inv
 
 enum-told : tie.Need-enum-told Inv-loop μ-loop
 enum-told c = search needs
 
 returns-2 : tie.Need-returns-2 Inv-loop μ-loop
 unfolding sectionItems
-returns-2 c = any-none _ _ (items-stop _ _ (listing-stop _ _ _ (c .before .before .before .loop-test .taken) _ (rule-unread _ _ _ (sym (c .enum-told .given .1) ∙ c .before .before .read-rule .ensures)))) ∙ c .before .before .before .before .loop .inv
+returns-2 c =
+    let read = c .before .before in
+    any-none _ _ (items-stop _ _ (listing-stop _ _ _ (read .before .loop-test .taken) _ (rule-unread _ _ _ (sym (c .enum-told .given .1) ∙ read .read-rule .ensures))))
+    ∙ read .before .before .loop .inv
 
 sub-left : tie.Need-sub-left Inv-loop μ-loop
 sub-left c = search needs
@@ -51,8 +62,12 @@ loop-less c = search needs
 
 loop-again : tie.Need-loop-again Inv-loop μ-loop
 loop-again c =
-    any-passed _ _ _ _ (items-item _ _ _ (listing-item _ _ _ (c .before .before .before .before .before .before .before .loop-test .taken) _ _ (rule-read _ _ _ (sym (c .before .before .before .before .x .given .1) ∙ c .before .before .before .before .before .before .read-rule .ensures)))) (sym (c .before .mandatory-rule .ensures) ∙ c .if1 .left)
-    ∙ c .before .before .before .before .before .before .before .before .loop .inv
+    let x = c .before .before .before .before .before in
+    let read = x .before .before in
+    let loop = read .before .before in
+    any-passed _ _ _ _ (items-item _ _ _ (listing-item _ _ _ (read .before .loop-test .taken) _ _ (rule-read _ _ _ (sym (x .x .given .1) ∙ read .read-rule .ensures))))
+    (sym (c .before .flag-in .ensures ∙ flag-of _ _ (loop .before .mandatory-flags .ensures)) ∙ c .if1 .left)
+    ∙ loop .loop .inv
 
 returns-3 : tie.Need-returns-3 Inv-loop μ-loop
 unfolding sectionItems
@@ -64,11 +79,12 @@ any-mandatory-spec =
     (tie.spec
     Inv-loop
     μ-loop
+    mandatory-flags-requires
     loop-holds
     read-rule-requires
     enum-known-x
-    cast-mandatory-rule
-    mandatory-rule-requires
+    cast-flag-in
+    flag-in-requires
     returns
     enum-told
     returns-2
