@@ -3,8 +3,7 @@
 use Prim.Native.Nat.{ℕ, zero, suc}
 use mathlib.Core.Bool.{Bool, false, _&&_, _||_}
 use mathlib.Core.List.{List, [], _∷_}
-use lib.Dec.{ltb, leb, eqb}
-use lib.ListN.{getD}
+use lib.Dec.{leb, eqb}
 use lib.IntN.{ℤ, pos, negsuc}
 
 abbrev pub from : ℕ → ℕ → ℕ → Bool
@@ -31,7 +30,3 @@ flagsFrom id (suc n) = mandatoryRule id ∷ flagsFrom (suc id) n
 -- the flags of the rules 0 to 511
 unfoldable pub mandatoryFlags : List Bool
 mandatoryFlags = flagsFrom 0 512
-
--- what such a table says of a rule: false past its end
-unfoldable pub flagIn : List Bool → ℕ → Bool
-flagIn flags id = ltb id 512 && getD flags id false

@@ -1,6 +1,8 @@
 // The rules that may not be disabled. docs/RULES.md, "Settings update".
 ghost use mathlib.Core.Path.{_≡_};
-ghost use Rattle.extension.specs.Mandatory.{mandatoryFlags, flagIn, mandatory};
+ghost use mathlib.Core.Bool.{false};
+ghost use lib.ListN.{getD};
+ghost use Rattle.extension.specs.Mandatory.{mandatoryFlags, mandatory};
 
 pub fn rule_may_not_be_disabled(id: i32) -> bool
     ensures { λ r. ⌜ r ≡ mandatory id ⌝ }
@@ -11,11 +13,12 @@ pub fn rule_may_not_be_disabled(id: i32) -> bool
     flag_in(&mandatory_flags(), id as u32)
 }
 
-// The table lent, so that whoever asks of many rules makes it once.
-pub(crate) fn flag_in(flags: &[bool; 512], id: u32) -> bool
-    ensures { λ r. ⌜ r ≡ flagIn (now (flags .entry)) id ⌝ }
+// The flag of a rule, false past the table, which is lent so that whoever asks of many rules makes it once.
+pub(crate) fn flag_in(flags: &[bool], id: u32) -> bool
+    ensures { λ r. ⌜ r ≡ getD (now (flags .entry)) id false ⌝ }
 {
-    if id < 512 { flags[id as usize] } else { false }
+    let at = id as usize;
+    if at < flags.len() { flags[at] } else { false }
 }
 
 pub(crate) fn mandatory_flags() -> [bool; 512]

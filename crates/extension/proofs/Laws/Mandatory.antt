@@ -4,10 +4,10 @@ use native.Mathlib.Nat.{add-zero, zero-add, add-suc, suc-add, le-of-suc-le-suc, 
 use native.Mathlib.Omega.{arith}
 use mathlib.Core.Path.{_≡_, refl, ap, subst⁻¹, _∙_}
 use mathlib.Core.Bool.{Bool, true, false, and-false}
-use mathlib.Core.List.{List, [], _∷_}
-use lib.ListN.{getD}
+use mathlib.Core.List.{List}
+use lib.ListN.{getD, List·getD-eq-default}
 use lib.Dec.{ltb, leb, eqb}
-use borrow.Author.Tests.{ltb-true, ltb-false, lt-ltb, le-ltb, lt-leb, ne-eqb}
+use borrow.Author.Tests.{ltb-true, ltb-false, lt-leb, ne-eqb}
 use Rattle.voting.proofs.Laws.Tests.{by-test}
 use lib.IntN.{ℤ, pos, natAbs}
 use lib.Signed.{ltZ}
@@ -15,7 +15,7 @@ use mir.Syntax.{w32}
 use mir.Val.{SFits, toZ, ofZ}
 use mir.ValLaws.{toZ-ofZ}
 use Rattle.codec.proofs.Laws.Signed.{is-neg, not-neg}
-use Rattle.extension.specs.Mandatory.{mandatoryRule, flagsFrom, mandatoryFlags, flagIn, mandatory}
+use Rattle.extension.specs.Mandatory.{mandatoryRule, flagsFrom, mandatoryFlags, mandatory}
 
 past-rule : (id : ℕ) → 512 ≤ id → false ≡ mandatoryRule id
 unfolding mandatoryRule
@@ -47,17 +47,17 @@ flag-at id (suc n) zero h = rw add-zero
 flag-at id (suc n) (suc k) h = rw (add-suc, ← suc-add) (flag-at (suc id) n k (le-of-suc-le-suc h))
 
 -- the table's rule, past the table and in it
-past : (id : ℕ) → 512 ≤ id → flagIn mandatoryFlags id ≡ mandatoryRule id
-unfolding flagIn
-past id h = rw (le-ltb id 512 h) (past-rule id h)
+past : (id : ℕ) → 512 ≤ id → getD mandatoryFlags id false ≡ mandatoryRule id
+unfolding mandatoryFlags
+past id h = List·getD-eq-default mandatoryFlags false h ∙ past-rule id h
 
-within : (id : ℕ) → id < 512 → flagIn mandatoryFlags id ≡ mandatoryRule id
-unfolding flagIn mandatoryFlags
-within id h = rw (lt-ltb id 512 h) (rw zero-add at (flag-at 0 512 id h))
+within : (id : ℕ) → id < 512 → getD mandatoryFlags id false ≡ mandatoryRule id
+unfolding mandatoryFlags
+within id h = rw zero-add at (flag-at 0 512 id h)
 
-pub flag-of : (flags : List Bool) (id : ℕ) → flags ≡ mandatoryFlags → flagIn flags id ≡ mandatoryRule id
+pub flag-of : (flags : List Bool) (id : ℕ) → flags ≡ mandatoryFlags → getD flags id false ≡ mandatoryRule id
 flag-of flags id e =
-    ap (λ (l : List Bool). flagIn l id) e
+    ap (λ (l : List Bool). getD l id false) e
     ∙ by-test (ltb id 512) (λ t. within id (ltb-true id 512 t)) (λ t. past id (ltb-false id 512 t))
 
 module _ (z : ℤ) (f : SFits w32 z) where

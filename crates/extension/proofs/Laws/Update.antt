@@ -2,8 +2,8 @@
 -- Assumes nothing.
 use mathlib.Core.Path.{_≡_, refl}
 use mathlib.Core.Bool.{Bool, true, false, cond}
-use mathlib.Core.List.{List, []}
-use Prim.Native.Nat.{ℕ, _+_, _≤_, _<_}
+use mathlib.Core.List.{List, [], _∷_}
+use Prim.Native.Nat.{ℕ, _+_, _-_, _≤_, _<_}
 use native.Mathlib.Omega.{arith}
 use borrow.Author.Tests.{lt-ltb, le-ltb, ltb-false, eq-eqb, ne-eqb}
 use lib.Dec.{ltb}
@@ -22,9 +22,10 @@ use Rattle.extension.specs.declared.update.RulePlace.{RulePlace}
 use Rattle.extension.specs.declared.update.RuleAt.the-variants.{HasRule, NoRule}
 use Rattle.extension.specs.declared.update.StatusPlace.{StatusPlace}
 use Rattle.extension.specs.declared.update.StatusAt.the-variants.{HasStatus, NoStatus}
-use Rattle.extension.specs.Section.{Reading, got, bad, listing, closed, sectionItems, refusedSection, part, any}
+use Rattle.extension.specs.Section.{Reading, got, bad, listing, items, closed, sectionItems, refusedSection, part, any}
 use Rattle.extension.specs.Mandatory.{mandatoryRule}
 use Rattle.extension.specs.Update.{placedRule, ruleAt, ruleReading, readRule, Status, placedStatus, offsetThen, statusAt, statusReading, readStatus, updateRule, updateStatus, rawOf, statusRaw, countIn, itemsFrom, noUpdate, refusedUpdate, withStatuses, withRules, updateOf}
+use Rattle.extension.proofs.Laws.Section.{listing-stop, listing-item, items-stop, items-item}
 
 -- the rule at a position
 module _ (s : List ℕ) (at : ℕ) where
@@ -43,6 +44,14 @@ module _ (s : List ℕ) (at : ℕ) where
   pub rule-unread : (e : ℕ) → NoRule e ≡ ruleAt s at → readRule s at ≡ bad e
   unfolding readRule ruleReading
   rule-unread e q = rw (← q)
+
+  -- the rules that are left, by the one read here
+  module _ (n : ℕ) (h : 0 < n) where
+    pub rule-listed : (x : RulePlace) → HasRule x ≡ ruleAt s at → items (listing (readRule s) n at) ≡ x .id ∷ items (listing (readRule s) (n - 1) (x .next))
+    rule-listed x e = items-item _ _ _ (listing-item (readRule s) n at h (x .id) (x .next) (rule-read x e))
+
+    pub rule-ends : (e : ℕ) → NoRule e ≡ ruleAt s at → items (listing (readRule s) n at) ≡ []
+    rule-ends e q = items-stop _ _ (listing-stop (readRule s) n at h e (rule-unread e q))
 
   pub rule-long : 65536 < length s → NoRule inputLong ≡ updateRule s at
   unfolding updateRule

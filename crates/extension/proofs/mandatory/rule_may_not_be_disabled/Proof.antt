@@ -13,6 +13,9 @@ returns c = below-zero (c .before .args .id) (c .before .fits .id) (c .if1 .take
 mandatory-flags-requires : tie.Need-mandatory-flags-requires
 mandatory-flags-requires c κs = search needs
 
+slice-aggregate-flag-in : tie.Need-slice-aggregate-flag-in
+slice-aggregate-flag-in c = search needs
+
 cast-flag-in : tie.Need-cast-flag-in
 cast-flag-in c = pos-cast w32 (c .before .before .before .args .id) (c .before .before .before .fits .id) (c .before .before .if1 .left)
 
@@ -27,4 +30,4 @@ returns-2 c =
 
 pub rule-may-not-be-disabled-spec : {M : Type 1} → statement M
 rule-may-not-be-disabled-spec =
-    tie.close (tie.spec returns mandatory-flags-requires cast-flag-in flag-in-requires returns-2)
+    tie.close (tie.spec returns mandatory-flags-requires slice-aggregate-flag-in cast-flag-in flag-in-requires returns-2)

@@ -1,7 +1,7 @@
 -- `extension::update::any_mandatory` meets its contract. Assumes nothing.
 use Rattle.extension.proofs.Laws.Mandatory.{flag-of}
-use Rattle.extension.proofs.Laws.Section.{listing-none, listing-stop, listing-item, items-done, items-stop, items-item, any-none, any-found, any-passed}
-use Rattle.extension.proofs.Laws.Update.{rule-read, rule-unread}
+use Rattle.extension.proofs.Laws.Section.{listing-none, items-done, any-none, any-found, any-passed}
+use Rattle.extension.proofs.Laws.Update.{rule-listed, rule-ends}
 use Rattle.extension.specs.Mandatory.{mandatoryRule}
 use Rattle.extension.specs.Update.{readRule}
 use Rattle.extension.specs.Section.{listing, items, any, sectionItems}
@@ -28,6 +28,9 @@ read-rule-requires c κs = search needs
 enum-known-x : tie.Need-enum-known-x Inv-loop μ-loop
 enum-known-x c = search needs
 
+slice-aggregate-flag-in : tie.Need-slice-aggregate-flag-in Inv-loop μ-loop
+slice-aggregate-flag-in c = search needs
+
 cast-flag-in : tie.Need-cast-flag-in Inv-loop μ-loop
 cast-flag-in c = search needs
 
@@ -40,7 +43,7 @@ returns c =
     let x = c .before .before .before .before .before in
     let read = x .before .before in
     let loop = read .before .before in
-    any-found _ _ _ _ (items-item _ _ _ (listing-item _ _ _ (read .before .loop-test .taken) _ _ (rule-read _ _ _ (sym (x .x .given .1) ∙ read .read-rule .ensures))))
+    any-found _ _ _ _ (rule-listed _ _ _ (read .before .loop-test .taken) _ (sym (x .x .given .1) ∙ read .read-rule .ensures))
     (sym (c .before .flag-in .ensures ∙ flag-of _ _ (loop .before .mandatory-flags .ensures)) ∙ c .if1 .taken)
     ∙ loop .loop .inv
 
@@ -51,7 +54,7 @@ returns-2 : tie.Need-returns-2 Inv-loop μ-loop
 unfolding sectionItems
 returns-2 c =
     let read = c .before .before in
-    any-none _ _ (items-stop _ _ (listing-stop _ _ _ (read .before .loop-test .taken) _ (rule-unread _ _ _ (sym (c .enum-told .given .1) ∙ read .read-rule .ensures))))
+    any-none _ _ (rule-ends _ _ _ (read .before .loop-test .taken) _ (sym (c .enum-told .given .1) ∙ read .read-rule .ensures))
     ∙ read .before .before .loop .inv
 
 sub-left : tie.Need-sub-left Inv-loop μ-loop
@@ -65,7 +68,7 @@ loop-again c =
     let x = c .before .before .before .before .before in
     let read = x .before .before in
     let loop = read .before .before in
-    any-passed _ _ _ _ (items-item _ _ _ (listing-item _ _ _ (read .before .loop-test .taken) _ _ (rule-read _ _ _ (sym (x .x .given .1) ∙ read .read-rule .ensures))))
+    any-passed _ _ _ _ (rule-listed _ _ _ (read .before .loop-test .taken) _ (sym (x .x .given .1) ∙ read .read-rule .ensures))
     (sym (c .before .flag-in .ensures ∙ flag-of _ _ (loop .before .mandatory-flags .ensures)) ∙ c .if1 .left)
     ∙ loop .loop .inv
 
@@ -83,6 +86,7 @@ any-mandatory-spec =
     loop-holds
     read-rule-requires
     enum-known-x
+    slice-aggregate-flag-in
     cast-flag-in
     flag-in-requires
     returns

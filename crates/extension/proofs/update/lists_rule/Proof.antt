@@ -1,7 +1,7 @@
 -- `extension::update::lists_rule` meets its contract. Assumes nothing.
 use borrow.Author.Tests.{eq-eqb, ne-eqb}
-use Rattle.extension.proofs.Laws.Section.{listing-none, listing-stop, listing-item, items-done, items-stop, items-item, any-none, any-found, any-passed}
-use Rattle.extension.proofs.Laws.Update.{rule-read, rule-unread}
+use Rattle.extension.proofs.Laws.Section.{listing-none, items-done, any-none, any-found, any-passed}
+use Rattle.extension.proofs.Laws.Update.{rule-listed, rule-ends}
 use lib.Dec.{eqb}
 use Rattle.extension.specs.Update.{readRule}
 use Rattle.extension.specs.Section.{listing, items, any, sectionItems}
@@ -28,15 +28,19 @@ enum-known-x c = search needs
 returns : tie.Need-returns Inv-loop μ-loop
 unfolding sectionItems
 returns c =
-    any-found _ _ _ _ (items-item _ _ _ (listing-item _ _ _ (c .before .before .before .before .before .before .loop-test .taken) _ _ (rule-read _ _ _ (sym (c .before .before .before .x .given .1) ∙ c .before .before .before .before .before .read-rule .ensures)))) (eq-eqb _ _ (c .if1 .taken))
-    ∙ c .before .before .before .before .before .before .before .loop .inv
+    let x = c .before .before .before in
+    let read = x .before .before in
+    any-found _ _ _ _ (rule-listed _ _ _ (read .before .loop-test .taken) _ (sym (x .x .given .1) ∙ read .read-rule .ensures)) (eq-eqb _ _ (c .if1 .taken))
+    ∙ read .before .before .loop .inv
 
 enum-told : tie.Need-enum-told Inv-loop μ-loop
 enum-told c = search needs
 
 returns-2 : tie.Need-returns-2 Inv-loop μ-loop
 unfolding sectionItems
-returns-2 c = any-none _ _ (items-stop _ _ (listing-stop _ _ _ (c .before .before .before .loop-test .taken) _ (rule-unread _ _ _ (sym (c .enum-told .given .1) ∙ c .before .before .read-rule .ensures)))) ∙ c .before .before .before .before .loop .inv
+returns-2 c =
+    let read = c .before .before in
+    any-none _ _ (rule-ends _ _ _ (read .before .loop-test .taken) _ (sym (c .enum-told .given .1) ∙ read .read-rule .ensures)) ∙ read .before .before .loop .inv
 
 sub-left : tie.Need-sub-left Inv-loop μ-loop
 sub-left c = search needs
@@ -46,8 +50,10 @@ loop-less c = search needs
 
 loop-again : tie.Need-loop-again Inv-loop μ-loop
 loop-again c =
-    any-passed _ _ _ _ (items-item _ _ _ (listing-item _ _ _ (c .before .before .before .before .before .before .loop-test .taken) _ _ (rule-read _ _ _ (sym (c .before .before .before .x .given .1) ∙ c .before .before .before .before .before .read-rule .ensures)))) (ne-eqb _ _ (c .if1 .left))
-    ∙ c .before .before .before .before .before .before .before .loop .inv
+    let x = c .before .before .before in
+    let read = x .before .before in
+    any-passed _ _ _ _ (rule-listed _ _ _ (read .before .loop-test .taken) _ (sym (x .x .given .1) ∙ read .read-rule .ensures)) (ne-eqb _ _ (c .if1 .left))
+    ∙ read .before .before .loop .inv
 
 returns-3 : tie.Need-returns-3 Inv-loop μ-loop
 unfolding sectionItems
