@@ -15,9 +15,10 @@ use Rattle.voting.specs.Tally.{noTally, entries, tallyVotesSeeded}
 use Rattle.rounds.specs.Epochs.{boundaryVotes}
 use Rattle.extension.specs.declared.boundary.Computed.{Computed}
 use Rattle.extension.specs.declared.parameters.Matched.{Matched}
+use Rattle.extension.specs.declared.parameters.ParameterMap.{ParameterMap}
 use Rattle.extension.specs.Section.{part}
 use Rattle.extension.specs.Body.{checkBody, proposedUpdate}
-use Rattle.extension.specs.Parameters.{parametersOf, checkParameters}
+use Rattle.extension.specs.Parameters.{parametersOf, checkParameters, Stands, LeastDiffering}
 use Rattle.extension.specs.Boundary.{computedOf}
 use Rattle.archive.specs.declared.record.RecordPlace.{RecordPlace}
 use Rattle.archive.specs.declared.record.RecordAt.{RecordAt}
@@ -65,6 +66,11 @@ afterBoundary s height body votes b =
 unfoldable pub heightRefusal : Replay → ℕ → ℕ
 heightRefusal s height = cond (eqb height (s .next) && leb (height + votingLength (s .settings)) (2 ^ 31)) 0 heightUnexpected
 
+-- the boundary: the old table, the tally of the epoch before, the boundary header's vote, the body's proposed update
+abbrev pub boundaryOn : Replay → ℕ → List ℕ → List ℕ → Computed
+boundaryOn s height body votes =
+    computedOf (s .settings) height (s .table) (entries (s .tally)) (boundaryVotes votes) (proposedUpdate body)
+
 -- the tests in order
 unfoldable pub onParts : Replay → ℕ → List ℕ → List ℕ → Replayed
 onParts s height body votes =
@@ -72,14 +78,19 @@ onParts s height body votes =
     (gate s (checkHeaders votes)
     (gate s (checkForkVotes (s .settings) (s .table) height (take 3 votes))
     (gate s (checkBody body .refusal)
-    (afterBoundary s height body votes
-    (computedOf (s .settings) height (s .table) (entries (s .tally)) (boundaryVotes votes) (proposedUpdate body))))))
+    (afterBoundary s height body votes (boundaryOn s height body votes)))))
+
+-- the body of a record, and its vote bytes
+abbrev pub bodyBytes : List ℕ → RecordPlace → List ℕ
+bodyBytes xs p = part xs (p .body) (p .«body_end»)
+
+abbrev pub voteBytes : List ℕ → RecordPlace → List ℕ
+voteBytes xs p = part xs (p .votes) (p .end)
 
 -- a record, and nothing after it
 unfoldable pub onRecord : Replay → List ℕ → RecordAt → Replayed
 onRecord s xs (Whole p) =
-    cond (eqb (p .end) (length xs)) (onParts s (p .height) (part xs (p .body) (p .«body_end»)) (part xs (p .votes) (p .end)))
-    (refuses s recordMalformed)
+    cond (eqb (p .end) (length xs)) (onParts s (p .height) (bodyBytes xs p) (voteBytes xs p)) (refuses s recordMalformed)
 onRecord s xs (Short k) = refuses s recordMalformed
 onRecord s xs Malformed = refuses s recordMalformed
 
@@ -127,3 +138,14 @@ abbrev pub Exhausted : Replay → List ℕ → Replayed → Type 0
 Exhausted s xs r =
     2 ^ 31 < s .next + votingLength (s .settings)
     → (p : RecordPlace) → recordAt xs (votesSize (s .settings)) ≡ Whole p → p .end ≡ length xs → r ≡ refuses s heightUnexpected
+
+-- what a verdict says of a computed table and a body's parameters: 15 carries the least id whose entry is missing or different there;
+-- accepted, every entry stands there
+abbrev pub Judged : Table → ParameterMap → Verdict → Type 0
+Judged t m v = (verdictNumber v ≡ entryDiffers → LeastDiffering t m (verdictId v)) × (verdictNumber v ≡ 0 → (id : ℕ) → Stands t m id)
+
+-- of the table that the record's boundary computes, and of the parameters of its body
+abbrev pub LeastOfRecord : Replay → List ℕ → Replayed → Type 0
+LeastOfRecord s xs r =
+    (p : RecordPlace) → recordAt xs (votesSize (s .settings)) ≡ Whole p
+    → Judged (boundaryOn s (p .height) (bodyBytes xs p) (voteBytes xs p) .table) (parametersOf (bodyBytes xs p) .map) (r .verdict)

@@ -17,7 +17,6 @@ use Rattle.voting.specs.Tally.{entries, firstCount}
 use Rattle.rounds.specs.Replay.{Answer, refused, accepted, run}
 use Rattle.rounds.specs.Replay as Interface
 use Rattle.rounds.specs.Mainnet.{Promise}
-use Rattle.extension.specs.Section.{part}
 use Rattle.archive.specs.declared.record.RecordAt.{RecordAt}
 use Rattle.archive.specs.declared.record.RecordAt.the-variants.{Whole, Short, Malformed}
 use Rattle.archive.specs.declared.replay.Replay.{Replay}
@@ -26,7 +25,7 @@ use Rattle.archive.specs.declared.replay.Verdict.the-variants.{Accepted,
 use Rattle.archive.specs.declared.replay.Replayed.{Replayed}
 use Rattle.archive.specs.declared.replay.Opened.{Opened}
 use Rattle.archive.specs.Record.{recordAt}
-use Rattle.archive.specs.Replay.{votesSize, replayOf}
+use Rattle.archive.specs.Replay.{voteBytes, votesSize, replayOf}
 
 -- a state without its settings, and with them
 pub record Core : Type 0 where
@@ -56,7 +55,7 @@ recordHeight (Short k) = 0
 recordHeight Malformed = 0
 
 unfoldable pub recordVotes : List ℕ → RecordAt → List ℕ
-recordVotes xs (Whole p) = part xs (p .votes) (p .end)
+recordVotes xs (Whole p) = voteBytes xs p
 recordVotes xs (Short k) = []
 recordVotes xs Malformed = []
 

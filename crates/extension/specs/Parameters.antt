@@ -1,9 +1,12 @@
 -- The parameters of a body, and the match of a computed table against them. docs/RULES.md, "Extension body and match".
 -- Assumes nothing.
-use Prim.Native.Nat.{ℕ, zero, suc}
+use Prim.Native.Nat.{ℕ, zero, suc, _<_}
+use mathlib.Core.Path.{_≡_}
+use mathlib.Core.Logic.{_⊎_}
 use mathlib.Core.Bool.{Bool, true, false, cond, _&&_}
 use mathlib.Core.List.{List, [], _∷_}
 use lib.Dec.{eqb}
+use lib.IntN.{ℤ}
 use lib.ListN.{length, getD, set, replicate}
 use Rattle.codec.specs.Refusal.{entryDiffers}
 use Rattle.codec.specs.Signed.{signedOf}
@@ -72,3 +75,16 @@ matched (suc k) = record { refusal = entryDiffers; id = suc k }
 -- 15 with the least id that differs
 unfoldable pub checkParameters : Table → ParameterMap → Matched
 checkParameters t m = matched (firstDiffering t m tableIds)
+
+-- What 15 carries, without the order of a list. An entry stands: if the table has a number under the id, the parameters have the same there.
+abbrev pub Stands : Table → ParameterMap → ℕ → Type 0
+Stands t m id = (x : ℤ) → lookup t id ≡ Number x → entryOf m id ≡ Number x
+
+-- the least id, by number, whose entry is missing or different
+abbrev pub LeastDiffering : Table → ParameterMap → ℕ → Type 0
+LeastDiffering t m id = (Stands t m id → ⊥) × ((smaller : ℕ) → smaller < id → Stands t m smaller)
+
+-- every entry stands and the answer is 0, or it is 15 with the least id
+abbrev pub LeastCarried : Table → ParameterMap → Matched → Type 0
+LeastCarried t m r =
+    (((id : ℕ) → Stands t m id) × (r ≡ record { refusal = 0; id = 0 })) ⊎ (LeastDiffering t m (r .id) × (r .refusal ≡ entryDiffers))
