@@ -4,3 +4,4 @@ pub mod RecordTrip
 pub mod RecordBytes
 pub mod Rounds
 pub mod Replay
+pub mod Least

@@ -22,7 +22,7 @@ ghost use Rattle.voting.specs.Settings.{votingLength, mainnet};
 ghost use Rattle.voting.specs.Tally.{noTally};
 ghost use Rattle.rounds.specs.Epochs.{boundaryVotes};
 ghost use Rattle.archive.specs.Headers.{checkForkVotes};
-ghost use Rattle.archive.specs.Replay.{refuses, onward, afterMatch, afterBoundary, heightRefusal, earlyRefusal, onParts, replayOf, Exhausted, verdictNumber, verdictId, mayOpen, openOf};
+ghost use Rattle.archive.specs.Replay.{refuses, onward, afterMatch, afterBoundary, heightRefusal, earlyRefusal, onParts, replayOf, Exhausted, LeastOfRecord, verdictNumber, verdictId, mayOpen, openOf};
 ghost use Rattle.archive.specs.Rounds.{RoundsKept};
 
 // No epoch reaches this height.
@@ -77,6 +77,7 @@ impl Replay {
     pub fn replay(self, rec: &[u8]) -> Replayed
         ensures { λ r. ⌜ r ≡ replayOf self (now (rec .entry)) ⌝ }
         ensures exhausted { λ r. ⌜ (Exhausted self (now (rec .entry)) r) ⌝ }
+        ensures least { λ r. ⌜ (LeastOfRecord self (now (rec .entry)) r) ⌝ }
     {
         let g = self.settings;
         match record::read_record(rec, 3 * (g.voting_length as usize)) {

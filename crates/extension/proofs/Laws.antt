@@ -3,9 +3,11 @@ pub mod Parts
 pub mod Body
 pub mod Parameters
 pub mod Mandatory
+pub mod Matched
 pub mod Update
 pub mod Boundary
 pub mod Pack
 pub mod PackTrip
 pub mod Encode
 pub mod EncodeTrip
+pub mod Refusals

@@ -13,7 +13,7 @@ ghost use mathlib.Core.Bool.{not};
 ghost use mathlib.Core.List.{[], _∷_};
 ghost use Rattle.extension.specs.Section.{sectionItems};
 ghost use Rattle.extension.specs.Body.{readField};
-ghost use Rattle.extension.specs.Parameters.{noParameters, entryOf, store, numberIn, taken, parametersIn, parametersOf, agrees, firstDiffering, tableIds, checkParameters};
+ghost use Rattle.extension.specs.Parameters.{noParameters, entryOf, store, numberIn, taken, parametersIn, parametersOf, agrees, firstDiffering, tableIds, checkParameters, LeastCarried};
 
 // One entry for each id byte.
 pub struct ParameterMap {
@@ -119,6 +119,7 @@ fn number_in(a: u8, b: u8, c: u8, d: u8) -> Value
 // 15 where a computed entry is missing or different among the parameters, with the least such id; others are not looked at.
 pub fn check_parameters_v6(expected: Table, parsed: ParameterMap) -> Matched
     ensures { λ r. ⌜ r ≡ checkParameters expected parsed ⌝ }
+    ensures least { λ r. ⌜ LeastCarried expected parsed r ⌝ }
 {
     let id = first_differing(expected, parsed);
     if id == 0 {

@@ -9,3 +9,4 @@ pub mod Votes
 pub mod Ordinary
 pub mod Fork
 pub mod Boundary
+pub mod Refusals

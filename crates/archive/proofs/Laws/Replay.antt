@@ -25,7 +25,6 @@ use Rattle.extension.specs.declared.boundary.Computed.{Computed}
 use Rattle.extension.specs.declared.parameters.Matched.{Matched}
 use Rattle.extension.specs.declared.parameters.Parameters.{Parameters}
 use Rattle.extension.specs.declared.section.Parsed.{Parsed}
-use Rattle.extension.specs.Section.{part}
 use Rattle.extension.specs.Body.{checkBody, proposedUpdate}
 use Rattle.extension.specs.Parameters.{parametersOf, checkParameters}
 use Rattle.extension.specs.Boundary.{computedOf}
@@ -37,7 +36,7 @@ use Rattle.archive.specs.declared.replay.Verdict.the-variants.{Accepted,
 use Rattle.archive.specs.declared.replay.Replayed.{Replayed}
 use Rattle.archive.specs.Record.{recordAt}
 use Rattle.archive.specs.Headers.{checkHeaders, forkRefusals, checkForkVotes}
-use Rattle.archive.specs.Replay.{refuses, gate, onward, afterMatch, afterBoundary, heightRefusal, earlyRefusal, onParts, onRecord, votesSize, replayOf, Exhausted, mayOpen, openingRefusal, opened, openOf}
+use Rattle.archive.specs.Replay.{refuses, gate, bodyBytes, voteBytes, onward, afterMatch, afterBoundary, heightRefusal, earlyRefusal, onParts, onRecord, votesSize, replayOf, Exhausted, mayOpen, openingRefusal, opened, openOf}
 use Rattle.archive.specs.Rounds.{RoundsKept}
 use Rattle.archive.proofs.Laws.Rounds.{kept}
 
@@ -211,7 +210,7 @@ module _ (s : Replay) (xs : List ℕ) (x : RecordAt) (is-x : x ≡ recordAt xs (
     unfolding replayOf onRecord
     record-more d = rw (← is-x, q, ne-eqb (p .end) (length xs) d)
 
-    pub record-whole : p .end ≡ length xs → onParts s (p .height) (part xs (p .body) (p .«body_end»)) (part xs (p .votes) (p .end)) ≡ replayOf s xs
+    pub record-whole : p .end ≡ length xs → onParts s (p .height) (bodyBytes xs p) (voteBytes xs p) ≡ replayOf s xs
     unfolding replayOf onRecord
     record-whole e = rw (← is-x, q, eq-eqb (p .end) (length xs) e)
 
@@ -225,10 +224,10 @@ no-epoch s height l = go (eqb height (s .next)) (leb (height + votingLength (s .
     go true false hp hq = refl
     go false q hp hq = refl
 
-pub exhausted : (s : Replay) (xs : List ℕ) (r : Replayed) → r ≡ replayOf s xs → (r ≡ replayOf s xs) × Exhausted s xs r
+pub exhausted : (s : Replay) (xs : List ℕ) (r : Replayed) → r ≡ replayOf s xs → Exhausted s xs r
 unfolding onParts
-exhausted s xs r e =
-    (e, λ l p q w. e ∙ sym (record-whole s xs (recordAt xs (votesSize (s .settings))) refl p q w) ∙ sym (gate-stop s heightUnexpected (heightRefusal s (p .height)) _ (sym (no-epoch s (p .height) l)) (λ z. omega arith)))
+exhausted s xs r e l p q w =
+    e ∙ sym (record-whole s xs (recordAt xs (votesSize (s .settings))) refl p q w) ∙ sym (gate-stop s heightUnexpected (heightRefusal s (p .height)) _ (sym (no-epoch s (p .height) l)) (λ z. omega arith))
 
 -- the opening
 module _ (height : ℕ) (t : Table) (b : Bool) (is-b : b ≡ mayOpen height) where

@@ -36,7 +36,6 @@ use Rattle.rounds.proofs.Mainnet.{mainnet-promise}
 use Rattle.rounds.specs.Replay as Interface
 use Rattle.rounds.specs.Replay.{accepted, run, Lawful}
 use Rattle.extension.specs.declared.parameters.Matched.{Matched}
-use Rattle.extension.specs.Section.{part}
 use Rattle.extension.specs.Body.{proposedUpdate}
 use Rattle.extension.specs.Parameters.{parametersOf, checkParameters}
 use Rattle.extension.specs.Update.{noUpdate, updateOf, disables}
@@ -49,7 +48,7 @@ use Rattle.archive.specs.declared.replay.Verdict.the-variants.{Accepted,
 use Rattle.archive.specs.declared.replay.Replayed.{Replayed}
 use Rattle.archive.specs.Record.{recordAt}
 use Rattle.archive.specs.Headers.{headersRefusal, checkHeaders, forkRefusals, checkForkVotes}
-use Rattle.archive.specs.Replay.{refuses, gate, onward, afterMatch, afterBoundary, heightRefusal, onParts, onRecord, votesSize, replayOf}
+use Rattle.archive.specs.Replay.{refuses, gate, bodyBytes, voteBytes, onward, afterMatch, afterBoundary, heightRefusal, onParts, onRecord, votesSize, replayOf}
 use Rattle.archive.proofs.Laws.RecordTrip.{votes-long}
 use Rattle.archive.specs.Rounds.{Core, core, full, answerBy, answer, recordHeight, recordVotes, interface, stateAfter, Kept}
 
@@ -184,12 +183,12 @@ record-met : (s : Replay) (xs : List ℕ) (u : Replay) (x : RecordAt) → x ≡ 
 unfolding onRecord recordHeight recordVotes
 record-met s xs u (Whole p) q e = go (eqb (p .end) (length xs)) e
   where
-    l : length (part xs (p .votes) (p .end)) ≡ 3 * votingLength (s .settings)
+    l : length (voteBytes xs p) ≡ 3 * votingLength (s .settings)
     l = votes-long xs (votesSize (s .settings)) p q
 
-    go : (b : Bool) → Accepts (cond b (onParts s (p .height) (part xs (p .body) (p .«body_end»)) (part xs (p .votes) (p .end))) (refuses s recordMalformed)) u
-        → (length (part xs (p .votes) (p .end)) ≡ 3 * votingLength (s .settings)) × Met s (p .height) (part xs (p .votes) (p .end)) u
-    go true x = (l, parts-met s (p .height) (part xs (p .body) (p .«body_end»)) (part xs (p .votes) (p .end)) u l x)
+    go : (b : Bool) → Accepts (cond b (onParts s (p .height) (bodyBytes xs p) (voteBytes xs p)) (refuses s recordMalformed)) u
+        → (length (voteBytes xs p) ≡ 3 * votingLength (s .settings)) × Met s (p .height) (voteBytes xs p) u
+    go true x = (l, parts-met s (p .height) (bodyBytes xs p) (voteBytes xs p) u l x)
     go false x =
         let v : Refused recordMalformed ≡ Accepted = ap (λ (r : Replayed). r .verdict) x in
         absurd (let z : _≡_ {A = ℕ} 0 1 = cc in omega arith)
@@ -272,8 +271,8 @@ record-keeps : (s : Replay) (xs : List ℕ) (x : RecordAt) → Keeps s (onRecord
 unfolding onRecord
 record-keeps s xs (Whole p) = go (eqb (p .end) (length xs))
   where
-    go : (b : Bool) → Keeps s (cond b (onParts s (p .height) (part xs (p .body) (p .«body_end»)) (part xs (p .votes) (p .end))) (refuses s recordMalformed))
-    go true = parts-keep s (p .height) (part xs (p .body) (p .«body_end»)) (part xs (p .votes) (p .end))
+    go : (b : Bool) → Keeps s (cond b (onParts s (p .height) (bodyBytes xs p) (voteBytes xs p)) (refuses s recordMalformed))
+    go true = parts-keep s (p .height) (bodyBytes xs p) (voteBytes xs p)
     go false = refl
 record-keeps s xs (Short k) = refl
 record-keeps s xs Malformed = refl

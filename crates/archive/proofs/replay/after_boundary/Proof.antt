@@ -21,7 +21,7 @@ after-match-requires : tie.Need-after-match-requires
 after-match-requires c κs = search needs
 
 returns-2 : tie.Need-returns-2
-returns-2 c = c .after-match .ensures ∙ boundary-pass _ _ _ _ _ (c .before .before .before .before .if1 .left) _ (c .before .before .parse-parameters-from-kv .ensures) _ (c .before .check-parameters-v6 .ensures)
+returns-2 c = c .after-match .ensures ∙ boundary-pass _ _ _ _ _ (c .before .before .before .before .if1 .left) _ (c .before .before .parse-parameters-from-kv .ensures) _ (c .before .check-parameters-v6 .ensures .0)
 
 pub after-boundary-spec : {M : Type 1} → statement M
 after-boundary-spec =

@@ -27,7 +27,7 @@ returns c =
     let k = (c .with-id) in
     let x = (c .before .check-parameters-v6) in
     let s = (c .before .before .before .before .before .before .args) in
-    let e : x .result ≡ checkParameters (tableAt (s .table .now) 0) (mapOf (s .parameters .now)) = rw (← (c .before .before .map-of) .ensures, ← (c .before .before .before .table-of) .ensures) (x .ensures) in
+    let e : x .result ≡ checkParameters (tableAt (s .table .now) 0) (mapOf (s .parameters .now)) = rw (← (c .before .before .map-of) .ensures, ← (c .before .before .before .table-of) .ensures) (x .ensures .0) in
     (k .ensures .0 ∙ ap matchedCode e, subst (λ (m : Matched). Told (k .result) (m .refusal) (m .id)) e (k .ensures .1))
 
 pub ergo-check-parameters-v6-spec : {M : Type 1} → statement M

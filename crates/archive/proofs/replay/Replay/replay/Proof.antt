@@ -1,7 +1,8 @@
 -- `archive::replay::Replay::replay` meets its contract. Assumes nothing.
 use mathlib.Core.Path.{sym, _∙_}
 use Rattle.archive.proofs.Laws.RecordTrip.{parts-inside, votes-long}
-use Rattle.archive.proofs.Laws.Replay.{exhausted, record-more, record-whole, record-short, record-malformed}
+use Rattle.archive.proofs.Laws.Least.{promised}
+use Rattle.archive.proofs.Laws.Replay.{record-more, record-whole, record-short, record-malformed}
 use borrow.Author.Needs.{needs}
 use Rattle.archive.proofs.replay.Replay.replay.Statement.{statement}
 use Rattle.archive.proofs.replay.Replay.replay.Tie as tie
@@ -22,7 +23,7 @@ refused-requires : tie.Need-refused-requires
 refused-requires c κs = search needs
 
 returns : tie.Need-returns
-returns c = exhausted _ _ _ (c .refused .ensures ∙ record-more _ _ _ (c .before .before .before .before .before .before .read-record .ensures .0) _ (c .before .before .before .before .p .given .1) (c .before .if1 .taken))
+returns c = promised _ _ _ (c .refused .ensures ∙ record-more _ _ _ (c .before .before .before .before .before .before .read-record .ensures .0) _ (c .before .before .before .before .p .given .1) (c .before .if1 .taken))
 
 sub-on-parts : tie.Need-sub-on-parts
 sub-on-parts c = parts-inside _ _ _ (sym (c .before .before .before .p .given .1) ∙ c .before .before .before .before .before .read-record .ensures .0) .body-ordered
@@ -58,13 +59,13 @@ refused-requires-3 : tie.Need-refused-requires-3
 refused-requires-3 c κs = search needs
 
 returns-2 : tie.Need-returns-2
-returns-2 c = exhausted _ _ _ (c .on-parts .ensures ∙ record-whole _ _ _ (c .before .before .before .before .before .before .before .before .read-record .ensures .0) _ (c .before .before .before .before .before .before .p .given .1) (c .before .before .before .if1 .left))
+returns-2 c = promised _ _ _ (c .on-parts .ensures ∙ record-whole _ _ _ (c .before .before .before .before .before .before .before .before .read-record .ensures .0) _ (c .before .before .before .before .before .before .p .given .1) (c .before .before .before .if1 .left))
 
 returns-3 : tie.Need-returns-3
-returns-3 c = exhausted _ _ _ (c .refused2 .ensures ∙ record-short _ _ _ (c .before .before .before .read-record .ensures .0) _ (c .before .enum-told .given .1))
+returns-3 c = promised _ _ _ (c .refused2 .ensures ∙ record-short _ _ _ (c .before .before .before .read-record .ensures .0) _ (c .before .enum-told .given .1))
 
 returns-4 : tie.Need-returns-4
-returns-4 c = exhausted _ _ _ (c .refused3 .ensures ∙ record-malformed _ _ _ (c .before .before .before .read-record .ensures .0) (c .before .enum-told2 .given .1))
+returns-4 c = promised _ _ _ (c .refused3 .ensures ∙ record-malformed _ _ _ (c .before .before .before .read-record .ensures .0) (c .before .enum-told2 .given .1))
 
 pub replay-spec : {M : Type 1} → statement M
 replay-spec =
