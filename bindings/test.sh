@@ -48,5 +48,6 @@ agree() {
 agree empty $'exit 0'
 agree approved $'71680 2500000\nexit 0'
 agree r15_entry_differs $'refused by 15, id 8\nexit 1'
+agree r15_several_differ $'refused by 15, id 3\nexit 1'
 agree r25_cut_in_votes $'refused by 25\nexit 1'
 agree r26_height_again $'refused by 26\nexit 1'

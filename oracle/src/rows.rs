@@ -7,7 +7,7 @@ use std::path::Path;
 
 use crate::answers::{answer, Gap};
 use crate::inputs::random::Random;
-use crate::inputs::{voting, Asked, Kind, KINDS};
+use crate::inputs::{bodies, voting, Asked, Kind, KINDS};
 use crate::text::hex;
 
 const SEED: u64 = 1;
@@ -116,7 +116,7 @@ fn add_kind(rows: &mut Rows, kind: &Kind) {
 fn add(rows: &mut Rows, (call, input): &Asked) {
     let Some((_, _, most, _)) = CALLS.iter().find(|row| row.0 == *call) else { return };
     let answer = match answer(*call, input) {
-        Ok(answer) => answer.bytes,
+        Ok(answer) => answer,
         Err(Gap::Outside) => return,
         Err(Gap::NoCounterpart) => panic!("call {call:02x} has no counterpart for {}", hex(input)),
     };
@@ -143,6 +143,7 @@ fn chosen() -> Vec<Asked> {
     chosen.extend([(0x1a, vec![0]), (0x1a, vec![1]), (0x22, vec![0]), (0x22, vec![1])]);
     chosen.extend((0..5_000).map(|_| (0x11, voting::votes(&mut random).to_vec())));
     chosen.extend((0..=255).map(|id| (0x1f, vec![id])));
+    chosen.extend(bodies::several());
     let rules = (0..=520).chain([1_000, 32_767, 32_768, 65_535u32]);
     chosen.extend(rules.map(|rule| (0x2f, rule.to_be_bytes().to_vec())));
     chosen

@@ -52,10 +52,10 @@ impl Report {
             Ok(rust) => {
                 let given = library();
                 self.compared += 1;
-                self.count(rust.fits(&given), || Difference {
+                self.count(rust == given, || Difference {
                     input: format!("call {call:02x} of {}", hex(input)),
                     size: input.len(),
-                    rust: hex(&rust.bytes),
+                    rust: hex(&rust),
                     library: hex(&given),
                 });
             }

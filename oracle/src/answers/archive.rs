@@ -3,8 +3,8 @@
 use ergo_lib::chain::parameters::Parameters;
 
 use super::bytes::{put_settings, put_table, put_tally, put_u32, Input, IN_ORDER};
-use super::extension::{mismatch, parse};
-use super::{number, number_of, written, Gap, Given};
+use super::extension::{parse, told};
+use super::{number_of, written, Gap, Given};
 use crate::record::read_record;
 use crate::replay::{self, State};
 use crate::rules::{self, Tally, Votes};
@@ -39,7 +39,7 @@ fn check_headers(input: &mut Input) -> Given {
             refusal = number_of(&rules::check_header(votes))?;
         }
     }
-    Ok(vec![refusal].into())
+    Ok(vec![refusal])
 }
 
 /// The bytes of a state whose tally was seeded by these votes.
@@ -58,7 +58,7 @@ fn open(input: &mut Input) -> Given {
     let opened = replay::open(height, table.clone());
     let mut out = vec![number_of(&opened)?];
     out.extend(state_bytes(&opened.unwrap_or(State { next: NO_HEIGHT, table, tally: Tally::new() }), IN_ORDER));
-    Ok(out.into())
+    Ok(out)
 }
 
 /// The replay has mainnet's settings.
@@ -79,12 +79,8 @@ fn replay(input: &mut Input) -> Given {
         parse(record.body)?.ok();
     }
     match before.replay(bytes) {
-        Ok(after) => Ok([vec![0, 0], state_bytes(&after, first_votes(bytes))].concat().into()),
-        Err(refusal) => {
-            let mut answer = mismatch(number(&refusal)?, &refusal);
-            answer.bytes.extend(state);
-            Ok(answer)
-        }
+        Ok(after) => Ok([vec![0, 0], state_bytes(&after, first_votes(bytes))].concat()),
+        Err(refusal) => Ok([&told(&refusal)?, state].concat()),
     }
 }
 

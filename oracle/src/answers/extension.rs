@@ -9,7 +9,7 @@ use sigma_ser::vlq_encode::ReadSigmaVlqExt;
 
 use super::bytes::{put_count, put_map, put_u32, Input};
 use super::voting::refused_table;
-use super::{number, number_of, written, Answer, Gap, Given};
+use super::{number, number_of, written, Gap, Given};
 use crate::refusal::Refusal;
 use crate::rules;
 
@@ -25,8 +25,8 @@ pub fn fnv(hash: u64, bytes: &[u8]) -> u64 {
 pub fn answer(call: u8, input: &[u8]) -> Given {
     match call {
         0x25 => section(input, parse(input)?),
-        0x26 => Ok(parse(input)?.map_or(Vec::new(), |(id, _)| id.to_vec()).into()),
-        0x29 => Ok(parse(input)?.map_or(Vec::new(), |(_, fields)| voting::extract_disabling_rules_from_kv(&fields)).into()),
+        0x26 => Ok(parse(input)?.map_or(Vec::new(), |(id, _)| id.to_vec())),
+        0x29 => Ok(parse(input)?.map_or(Vec::new(), |(_, fields)| voting::extract_disabling_rules_from_kv(&fields))),
         0x2a => section(input, checked(input)?),
         0x2b => parameters(input),
         0x2c => match_parameters(&mut Input(input)),
@@ -79,7 +79,7 @@ fn section(body: &[u8], parsed: Result<Body, Refusal>) -> Given {
         Err(_) => out.extend([0; 12]),
         Ok((_, fields)) => put_places(&mut out, body_places(body, &fields)),
     }
-    Ok(out.into())
+    Ok(out)
 }
 
 fn put_places(out: &mut Vec<u8>, (count, begin, end): (usize, usize, usize)) {
@@ -101,7 +101,7 @@ fn fields(body: &[u8]) -> Given {
         out.extend(id);
         out.extend(field_bytes(&fields));
     }
-    Ok(out.into())
+    Ok(out)
 }
 
 pub fn field_bytes(fields: &[ExtensionField]) -> Vec<u8> {
@@ -112,22 +112,17 @@ fn parameters(body: &[u8]) -> Given {
     let found = parse(body)?.and_then(|(_, fields)| Ok(voting::parse_parameters_from_kv(&fields)?));
     let mut out = vec![number_of(&found)?];
     put_map(&mut out, &found.unwrap_or_default());
-    Ok(out.into())
+    Ok(out)
 }
 
-/// The least id stands in the answer: which one is free.
 fn match_parameters(input: &mut Input) -> Given {
     let computed = input.table()?;
-    Ok(match rules::match_parameters(&computed, &input.map()?) {
-        Ok(()) => vec![0, 0].into(),
-        Err(refusal) => mismatch(number(&refusal)?, &refusal),
-    })
+    rules::match_parameters(&computed, &input.map()?).map_or_else(|refusal| told(&refusal), |()| Ok(vec![0, 0]))
 }
 
-/// A refusal, and the ids of 15.
-pub fn mismatch(number: u8, refusal: &Refusal) -> Answer {
-    let ids: Vec<u8> = refusal.ids.iter().map(|&id| id as u8).collect();
-    Answer { bytes: vec![number, ids.first().copied().unwrap_or(0)], ids }
+/// A refusal's number, and the least id of 15, else 0.
+pub fn told(refusal: &Refusal) -> Given {
+    Ok(vec![number(refusal)?, refusal.ids.first().map_or(0, |&id| id as u8)])
 }
 
 /// The places of the rules and of the statuses. Empty bytes have none.
@@ -157,7 +152,7 @@ fn parse_update(bytes: &[u8]) -> Given {
         Err(_) => out.extend([0; 24]),
         Ok(update) => put_update_places(&mut out, bytes, &update),
     }
-    Ok(out.into())
+    Ok(out)
 }
 
 fn rules_and_statuses(bytes: &[u8]) -> Given {
@@ -171,7 +166,7 @@ fn rules_and_statuses(bytes: &[u8]) -> Given {
         put_count(&mut out, status.data.len());
         out.extend(&status.data);
     }
-    Ok(out.into())
+    Ok(out)
 }
 
 /// The Rust can be asked for a rule of 16 bits without a sign.
@@ -179,7 +174,7 @@ fn mandatory(input: &mut Input) -> Given {
     let rule = input.u32()?;
     input.end()?;
     let rule = u16::try_from(rule).map_err(|_| Gap::NoCounterpart)?;
-    Ok(vec![rules::mandatory(rule).into()].into())
+    Ok(vec![rules::mandatory(rule).into()])
 }
 
 /// An update that says whether it is activated: it disables 215.
@@ -212,7 +207,7 @@ fn boundary_of(settings: &VotingConfig, height: u32, old: &Parameters, tally: &[
         }
         Err(_) => out.extend([0; 24]),
     }
-    Ok(out.into())
+    Ok(out)
 }
 
 /// The fields as they stand in a body.
@@ -278,7 +273,7 @@ fn short_bodies(input: &[u8]) -> Given {
     let (mut hash, mut read) = (FNV_START, 0);
     for end in short_strings(2) {
         let body = [&[0xa5; 32][..], &end].concat();
-        let answer = section(&body, checked(&body)?)?.bytes;
+        let answer = section(&body, checked(&body)?)?;
         hash = fnv(fnv(hash, &answer[..1]), &answer[9..]);
         read += u32::from(answer[0] == 0);
     }
@@ -289,20 +284,19 @@ fn short_updates(input: &[u8]) -> Given {
     Input(input).end()?;
     let (mut hash, mut read) = (FNV_START, 0);
     for bytes in short_strings(3) {
-        let answer = parse_update(&bytes)?.bytes;
+        let answer = parse_update(&bytes)?;
         hash = fnv(hash, &answer);
         read += u32::from(answer[0] == 0);
     }
     Ok(census(hash, read))
 }
 
-fn census(hash: u64, read: u32) -> Answer {
+fn census(hash: u64, read: u32) -> Vec<u8> {
     let mut out = hash.to_be_bytes().to_vec();
     put_u32(&mut out, read);
-    out.into()
+    out
 }
 
 fn cuts(bytes: &[u8], refusal: impl Fn(&[u8]) -> Result<u8, Gap>) -> Given {
-    let refusals: Result<Vec<u8>, Gap> = (0..=bytes.len()).map(|n| refusal(&bytes[..n])).collect();
-    Ok(refusals?.into())
+    (0..=bytes.len()).map(|n| refusal(&bytes[..n])).collect()
 }

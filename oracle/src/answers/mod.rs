@@ -7,13 +7,6 @@ mod voting;
 
 use crate::refusal::Refusal;
 
-/// An answer, and for 15 the ids that its second byte may be: which one is free.
-#[derive(Debug, Clone, PartialEq, Eq)]
-pub struct Answer {
-    pub bytes: Vec<u8>,
-    pub ids: Vec<u8>,
-}
-
 /// Why the Rust has no answer.
 #[derive(Debug, Clone, Copy, PartialEq, Eq)]
 pub enum Gap {
@@ -23,24 +16,7 @@ pub enum Gap {
     NoCounterpart,
 }
 
-pub type Given = Result<Answer, Gap>;
-
-impl From<Vec<u8>> for Answer {
-    fn from(bytes: Vec<u8>) -> Answer {
-        Answer { bytes, ids: Vec::new() }
-    }
-}
-
-impl Answer {
-    /// Whether these bytes are the answer.
-    pub fn fits(&self, bytes: &[u8]) -> bool {
-        match (&self.ids[..], bytes) {
-            ([], _) => self.bytes == bytes,
-            (ids, [first, id, rest @ ..]) => *first == self.bytes[0] && ids.contains(id) && *rest == self.bytes[2..],
-            _ => false,
-        }
-    }
-}
+pub type Given = Result<Vec<u8>, Gap>;
 
 /// The Rust's answer to a call of docs/VECTORS.md.
 pub fn answer(call: u8, input: &[u8]) -> Given {
@@ -75,5 +51,5 @@ fn written(result: Result<Vec<u8>, Refusal>, cells: &[u8]) -> Given {
     bytes::put_count(&mut out, bytes.len());
     out.extend(&bytes);
     out.extend(&cells[bytes.len()..]);
-    Ok(out.into())
+    Ok(out)
 }

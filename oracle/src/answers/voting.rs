@@ -26,7 +26,7 @@ pub fn answer(call: u8, input: &[u8]) -> Given {
         _ => return Err(Gap::NoCounterpart),
     };
     input.end()?;
-    Ok(given.into())
+    Ok(given)
 }
 
 /// Later heights aren't read: they rise by one.

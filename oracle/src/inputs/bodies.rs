@@ -1,6 +1,7 @@
 //! Extension bodies, and parameters against a table.
 
 use chain::voting::ExtensionField;
+use ergo_lib::chain::parameters::Parameters;
 
 use super::damage::damaged;
 use super::random::Random;
@@ -9,7 +10,7 @@ use super::voting::any_table;
 use super::Asked;
 use crate::answers::bytes::{put_map, put_table};
 use crate::answers::extension::field_bytes;
-use crate::table;
+use crate::table::{self, Map};
 
 /// A VLQ number, now and then in a longer form than the shortest.
 pub fn vlq(random: &mut Random, number: u32) -> Vec<u8> {
@@ -85,8 +86,27 @@ pub fn matches(random: &mut Random) -> Vec<Asked> {
             _ => drop(found.entry(id).and_modify(|value| *value = value.wrapping_add(1))),
         }
     }
+    vec![asked(&computed, &found)]
+}
+
+/// A whole table, and several of its entries that are missing or different: 15 carries the least id of them.
+pub fn several() -> Vec<Asked> {
+    let same: Map = table::ENTRIES.map(|entry| (entry as i8, 1_000)).into();
+    let computed = table::from_map(&same);
+    let all: Vec<i8> = same.keys().copied().collect();
+    let mut asks = Vec::new();
+    for ids in [&[1, 123][..], &[9, 121], &[122], &all] {
+        let (mut less, mut other) = (same.clone(), same.clone());
+        less.retain(|id, _| !ids.contains(id));
+        other.extend(ids.iter().map(|&id| (id, -1)));
+        asks.extend([asked(&computed, &less), asked(&computed, &other)]);
+    }
+    asks
+}
+
+fn asked(computed: &Parameters, found: &Map) -> Asked {
     let mut input = Vec::new();
-    put_table(&mut input, &computed);
-    put_map(&mut input, &found);
-    vec![(0x2c, input)]
+    put_table(&mut input, computed);
+    put_map(&mut input, found);
+    (0x2c, input)
 }

@@ -1,6 +1,6 @@
 //! Inputs of calls, at random from a seed.
 
-mod bodies;
+pub mod bodies;
 mod damage;
 pub mod random;
 pub mod records;

@@ -20,7 +20,7 @@ pub fn make(random: &mut Random) -> Vec<Asked> {
 fn size(call: u8, input: &[u8]) -> usize {
     let room = [input, &[0; 4_096]].concat();
     let Ok(answer) = answer(call, &room) else { return 0 };
-    u32::from_be_bytes(answer.bytes[1..5].try_into().expect("four bytes")) as usize
+    u32::from_be_bytes(answer[1..5].try_into().expect("four bytes")) as usize
 }
 
 pub fn with_cells(random: &mut Random, call: u8, input: Vec<u8>) -> Vec<u8> {

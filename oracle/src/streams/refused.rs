@@ -211,6 +211,7 @@ fn matches() -> Vec<Case> {
         refused("r15_entry_missing", 15, |p| p.without(1).bytes()),
         refused("r15_entry_of_fork_missing", 15, |p| p.without(121).bytes()),
         refused("r15_entry_differs", 15, |p| p.with_value(8, &[0, 0, 0, 101]).bytes()),
+        refused("r15_several_differ", 15, |p| p.with_value(8, &[0, 0, 0, 101]).without(123).with_value(3, &[0; 4]).bytes()),
         refused("r15_later_differs", 15, |mut p| {
             p.fields.push(([0, 3], vec![0, 8, 0, 0]));
             p.bytes()
