@@ -139,13 +139,15 @@ Exhausted s xs r =
     2 ^ 31 < s .next + votingLength (s .settings)
     → (p : RecordPlace) → recordAt xs (votesSize (s .settings)) ≡ Whole p → p .end ≡ length xs → r ≡ refuses s heightUnexpected
 
--- what a verdict says of a computed table and a body's parameters: 15 carries the least id whose entry is missing or different there;
--- accepted, every entry stands there
-abbrev pub Judged : Table → ParameterMap → Verdict → Type 0
-Judged t m v = (verdictNumber v ≡ entryDiffers → LeastDiffering t m (verdictId v)) × (verdictNumber v ≡ 0 → (id : ℕ) → Stands t m id)
+-- a record with nothing after it, and what is so of the table that its boundary computes and of the parameters of its body
+pub record OfRecord (s : Replay) (xs : List ℕ) (Holds : Table → ParameterMap → Type 0) : Type 0 where
+  pub place : RecordPlace
+  pub whole : recordAt xs (votesSize (s .settings)) ≡ Whole place
+  pub ends : place .end ≡ length xs
+  pub holds : Holds (boundaryOn s (place .height) (bodyBytes xs place) (voteBytes xs place) .table) (parametersOf (bodyBytes xs place) .map)
 
--- of the table that the record's boundary computes, and of the parameters of its body
+-- 15 carries the least id whose entry is missing or different in the body; accepted, every entry stands there
 abbrev pub LeastOfRecord : Replay → List ℕ → Replayed → Type 0
 LeastOfRecord s xs r =
-    (p : RecordPlace) → recordAt xs (votesSize (s .settings)) ≡ Whole p
-    → Judged (boundaryOn s (p .height) (bodyBytes xs p) (voteBytes xs p) .table) (parametersOf (bodyBytes xs p) .map) (r .verdict)
+    (verdictNumber (r .verdict) ≡ entryDiffers → OfRecord s xs (λ t m. LeastDiffering t m (verdictId (r .verdict))))
+    × (verdictNumber (r .verdict) ≡ 0 → OfRecord s xs (λ t m. (id : ℕ) → Stands t m id))

@@ -20,6 +20,7 @@ use Rattle.rounds.specs.Book.{Round, idle, since, Book, epochsSince, boo
 use Rattle.rounds.specs.Replay.{Answer, refused, accepted, Replay, after, call, run, calls, add-epoch, epochs, Lawful}
 use Rattle.rounds.specs.Claim.{Sound, Opening, firstBook, entriesFor, total, won, span, Boundary, Life, Promise}
 use Rattle.voting.proofs.Laws.Tests.{by-test}
+use Rattle.voting.proofs.Laws.Table.{absent-number}
 use Rattle.rounds.proofs.Scaled.{epoch-is}
 use Rattle.rounds.proofs.BookAt.{add-at, rise-at, close-at}
 use Rattle.rounds.proofs.Invariant.{Open, InvR}
@@ -69,9 +70,6 @@ module _ (g : VotingConfig) (m : Replay) (lawful : Lawful g m) where
 number : (a b : ℕ) → Number (pos a) ≡ Number (pos b) → a ≡ b
 number a b e = cc
 
-absent : (b : ℕ) → Absent ≡ Number (pos b) → ⊥
-absent b e = let z : _≡_ {A = ℕ} 0 1 = cc in omega arith
-
 version-is : (r : Round) (v : ℕ) → entriesFor r v .version ≡ Number (pos v)
 version-is idle v = refl
 version-is (since s n) v = refl
@@ -90,7 +88,7 @@ opens-new : (vote : Bool) (h v : ℕ) (old : Fork) → ((S : ℕ) → old .start
 unfolding bookOpen
 opens-new true h v old less =
     (λ e. (refl, λ S o n. let q : h ≡ S = number h S n in let l = less S o in omega arith), λ k. refl)
-opens-new false h v old less = (λ e. absurd (absent h e), λ k. absurd (true≢false (sym (k .0))))
+opens-new false h v old less = (λ e. absurd (absent-number (pos h) e), λ k. absurd (true≢false (sym (k .0))))
 
 -- it stays open
 opens-not : (vote : Bool) (S h n v w : ℕ) → S < h
@@ -101,7 +99,7 @@ opens-not vote S h n v w less = (λ e. absurd (let q = number S h e in omega ari
 bound-idle : (g : VotingConfig) (vote : Bool) (h v : ℕ) → Boundary g h vote (entriesFor idle v) (entriesFor (bookOpen h vote idle) (forcedVersion g h v))
 bound-idle g vote h v =
     record {
-      opens = opens-new vote h (forcedVersion g h v) (entriesFor idle v) (λ S e. absurd (absent S e));
+      opens = opens-new vote h (forcedVersion g h v) (entriesFor idle v) (λ S e. absurd (absent-number (pos S) e));
       stays = λ away. stays-by g h idle (bookOpen h vote idle) v (forcedVersion g h v) refl;
     }
 
@@ -153,7 +151,7 @@ bound g sound vote (since S n) v h c o = bound-since g sound vote S n v h c o
 opened-fresh : (h v : ℕ) (vote : Bool) → entriesFor (bookOpen h vote idle) v .start ≡ Number (pos h) → bookOpen h vote idle ≡ since h 0
 unfolding bookOpen
 opened-fresh h v true e = refl
-opened-fresh h v false e = absurd (absent h e)
+opened-fresh h v false e = absurd (absent-number (pos h) e)
 
 fresh-at : (S n v h : ℕ) (vote t : Bool) → S < h
     → entriesFor (bookOpen h vote (cond t idle (since S n))) v .start ≡ Number (pos h)
@@ -178,7 +176,7 @@ fresh g sound vote idle v h c w i e = opened-fresh h w vote e
 fresh g sound vote (since S n) v h c w o e = fresh-since g sound vote S n v h c w o e
 
 later-start : (S : ℕ) (r : Round) (v : ℕ) → Later S r → entriesFor r v .start ≡ Number (pos S) → ⊥
-later-start S idle v k e = absent S e
+later-start S idle v k e = absent-number (pos S) e
 later-start S (since s n) v k e = let q = number s S e in omega arith
 
 -- the last of the epochs from e on

@@ -17,7 +17,6 @@ use Rattle.voting.specs.Settings.{votingLength}
 use Rattle.voting.specs.Header.{checkHeaderVotes}
 use Rattle.voting.specs.Tally.{headers, entries}
 use Rattle.voting.specs.ForkCheck.{checkForkVote, forkRefusal}
-use Rattle.voting.proofs.Laws.Tests.{by-test}
 use Rattle.voting.proofs.Laws.Refusals.{Other, first-other, header-other, fork-vote-other}
 use Rattle.rounds.specs.Epochs.{boundaryVotes}
 use Rattle.extension.specs.declared.boundary.Computed.{Computed}
@@ -29,15 +28,15 @@ use Rattle.extension.proofs.Laws.Matched.{least-carried}
 use Rattle.extension.proofs.Laws.Refusals.{body-other, computed-other}
 use Rattle.archive.specs.declared.record.RecordPlace.{RecordPlace}
 use Rattle.archive.specs.declared.record.RecordAt.{RecordAt}
-use Rattle.archive.specs.declared.record.RecordAt.the-variants.{Whole}
+use Rattle.archive.specs.declared.record.RecordAt.the-variants.{Whole, Short, Malformed}
 use Rattle.archive.specs.declared.replay.Replay.{Replay}
 use Rattle.archive.specs.declared.replay.Verdict.{Verdict}
 use Rattle.archive.specs.declared.replay.Verdict.the-variants.{Accepted, Refused, Mismatch}
 use Rattle.archive.specs.declared.replay.Replayed.{Replayed}
 use Rattle.archive.specs.Record.{recordAt}
 use Rattle.archive.specs.Headers.{headersRefusal, checkHeaders, forkRefusals, checkForkVotes}
-use Rattle.archive.specs.Replay.{refuses, gate, onward, afterMatch, afterBoundary, heightRefusal, boundaryOn, onParts, bodyBytes, voteBytes, onRecord, votesSize, replayOf, Exhausted, verdictNumber, verdictId, Judged, LeastOfRecord}
-use Rattle.archive.proofs.Laws.Replay.{match-stop, record-whole, record-more, exhausted}
+use Rattle.archive.specs.Replay.{refuses, gate, onward, afterMatch, afterBoundary, heightRefusal, boundaryOn, onParts, bodyBytes, voteBytes, onRecord, votesSize, replayOf, Exhausted, verdictNumber, verdictId, LeastOfRecord}
+use Rattle.archive.proofs.Laws.Replay.{match-stop, exhausted}
 
 -- the other tests of a replay
 height-other : (s : Replay) (height : ℕ) → Other (heightRefusal s height)
@@ -63,6 +62,10 @@ fork-votes-other g t height votes = go height (headers votes)
     go : (height : ℕ) (hs : List (List ℕ)) → Other (forkRefusals g t height hs)
     go height [] = refl
     go height (h ∷ hs) = first-other (forkRefusal (checkForkVote g height h t)) (forkRefusals g t (height + 1) hs) (fork-vote-other g height h t) (go (height + 1) hs)
+
+-- what a verdict says of a computed table and a body's parameters
+abbrev Judged : Table → ParameterMap → Verdict → Type 0
+Judged t m v = (verdictNumber v ≡ entryDiffers → LeastDiffering t m (verdictId v)) × (verdictNumber v ≡ 0 → (id : ℕ) → Stands t m id)
 
 module _ (t : Table) (m : ParameterMap) where
   gate-judged : (s : Replay) (n : ℕ) (r : Replayed) → Other n → Judged t m (r .verdict) → Judged t m (gate s n r .verdict)
@@ -90,16 +93,23 @@ parts-judged s height body votes =
     (gate-judged t m s _ _ (computed-other (s .settings) height (s .table) (entries (s .tally)) (boundaryVotes votes) (proposedUpdate body))
     (match-judged t m s height votes (checkParameters t m) (least-carried t m (checkParameters t m) refl .1))))))
 
-least-of-record : (s : Replay) (xs : List ℕ) (r : Replayed) → r ≡ replayOf s xs → LeastOfRecord s xs r
-unfolding verdictNumber
-least-of-record s xs r e p q =
-    let t = boundaryOn s (p .height) (bodyBytes xs p) (voteBytes xs p) .table in
-    let m = parametersOf (bodyBytes xs p) .map in
-    let Answer : Replayed → Type 0 = λ y. Judged t m (y .verdict) in
-    by-test (eqb (p .end) (length xs))
-    (λ w. subst Answer (record-whole s xs _ refl p q (eqb-true (p .end) (length xs) w) ∙ sym e) (parts-judged s (p .height) (bodyBytes xs p) (voteBytes xs p)))
-    (λ w. subst Answer (record-more s xs _ refl p q (eqb-false (p .end) (length xs) w) ∙ sym e) (λ z. absurd (omega arith), λ z. absurd (omega arith)))
+least-of-record : (s : Replay) (xs : List ℕ) → LeastOfRecord s xs (replayOf s xs)
+unfolding replayOf onRecord verdictNumber
+least-of-record s xs = go (recordAt xs (votesSize (s .settings))) refl
+  where
+    whole : (p : RecordPlace) → recordAt xs (votesSize (s .settings)) ≡ Whole p → (b : Bool) → eqb (p .end) (length xs) ≡ b
+        → LeastOfRecord s xs (cond b (onParts s (p .height) (bodyBytes xs p) (voteBytes xs p)) (refuses s recordMalformed))
+    whole p q true w =
+        let j = parts-judged s (p .height) (bodyBytes xs p) (voteBytes xs p) in
+        let ends = eqb-true (p .end) (length xs) w in
+        (λ e. record { place = p; whole = q; ends = ends; holds = j .0 e }, λ e. record { place = p; whole = q; ends = ends; holds = j .1 e })
+    whole p q false w = (λ e. absurd (omega arith), λ e. absurd (omega arith))
+
+    go : (x : RecordAt) → recordAt xs (votesSize (s .settings)) ≡ x → LeastOfRecord s xs (onRecord s xs x)
+    go (Whole p) q = whole p q (eqb (p .end) (length xs)) refl
+    go (Short k) q = (λ e. absurd (omega arith), λ e. absurd (omega arith))
+    go Malformed q = (λ e. absurd (omega arith), λ e. absurd (omega arith))
 
 -- what a replay promises
 pub promised : (s : Replay) (xs : List ℕ) (r : Replayed) → r ≡ replayOf s xs → (r ≡ replayOf s xs) × (Exhausted s xs r × LeastOfRecord s xs r)
-promised s xs r e = (e, (exhausted s xs r e, least-of-record s xs r e))
+promised s xs r e = (e, (exhausted s xs r e, subst (LeastOfRecord s xs) (sym e) (least-of-record s xs)))

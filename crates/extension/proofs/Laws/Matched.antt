@@ -6,30 +6,26 @@ use mathlib.Core.Bool.{Bool, true, false, cond, true≢false}
 use mathlib.Core.List.{List, [], _∷_}
 use Prim.Native.Nat.{ℕ, zero, suc, _≤_, _<_}
 use native.Mathlib.Omega.{arith}
-use borrow.Author.Tests.{ltb-true, ltb-false, eqb-true, eqb-false, ne-eqb, lt-ltb, le-ltb}
+use borrow.Author.Tests.{ltb-true, ltb-false, eqb-true, eqb-false}
 use lib.Dec.{ltb, eqb}
 use lib.IntN.{ℤ}
 use Rattle.codec.specs.Refusal.{entryDiffers}
 use Rattle.voting.specs.Common.{eqZ}
 use Rattle.voting.specs.Table.{lookup}
-use Rattle.voting.specs.Boundary.{isAbsent}
 use Rattle.voting.specs.declared.table.Value.{Value}
 use Rattle.voting.specs.declared.table.Value.the-variants.{Absent, Number}
 use Rattle.voting.specs.declared.table.Table.{Table}
 use Rattle.voting.proofs.Laws.Tests.{by-test}
+use Rattle.voting.proofs.Laws.Table.{absent-number, lookup-none}
 use Rattle.voting.proofs.Laws.Integers.{eqZ-true, eqZ-same}
 use Rattle.extension.specs.declared.parameters.ParameterMap.{ParameterMap}
 use Rattle.extension.specs.declared.parameters.Matched.{Matched}
 use Rattle.extension.specs.Parameters.{entryOf, agrees, tableIds, firstDiffering, matched, checkParameters, Stands, LeastDiffering, LeastCarried}
 
-absent-number : {P : Type 0} (x : ℤ) → Absent ≡ Number x → P
-unfolding isAbsent
-absent-number x q = absurd (true≢false (ap isAbsent q))
-
 -- two entries that agree, and two that do not
 agreeing : (a b : Value) → agrees a b ≡ true → (x : ℤ) → a ≡ Number x → b ≡ Number x
 unfolding agrees
-agreeing Absent b e x q = absent-number x q
+agreeing Absent b e x q = absurd (absent-number x q)
 agreeing (Number y) Absent e x q = absurd (true≢false (sym e))
 agreeing (Number y) (Number z) e x q = ap Number (sym (eqZ-true y z e)) ∙ q
 
@@ -44,23 +40,18 @@ module _ (t : Table) where
   Rising from [] = (id : ℕ) → from ≤ id → lookup t id ≡ Absent
   Rising from (next ∷ ids) = ((id : ℕ) → from ≤ id → id < next → lookup t id ≡ Absent) × Rising (suc next) ids
 
-  low : (id : ℕ) → id < 1 → lookup t id ≡ Absent
-  unfolding lookup
-  low id l = rw (ne-eqb id 121 (λ e. omega arith), ne-eqb id 122 (λ e. omega arith), ne-eqb id 123 (λ e. omega arith), lt-ltb id 1 l)
-
-  high : (id : ℕ) → 9 < id → (id ≡ 121 → ⊥) → (id ≡ 122 → ⊥) → (id ≡ 123 → ⊥) → lookup t id ≡ Absent
-  unfolding lookup
-  high id l a b c = rw (ne-eqb id 121 a, ne-eqb id 122 b, ne-eqb id 123 c, le-ltb id 1 (omega arith), lt-ltb 9 id l)
-
   none : {n : ℕ} (id : ℕ) → n ≤ id → id < n → lookup t id ≡ Absent
   none id a b = absurd (omega arith)
+
+  before : (id : ℕ) → 0 ≤ id → id < 1 → lookup t id ≡ Absent
+  before id a b = lookup-none t id (λ c. omega arith) (λ e. omega arith) (λ e. omega arith) (λ e. omega arith)
 
   table-ids : Rising 0 tableIds
   unfolding tableIds
   table-ids =
-      let after : Rising 124 [] = λ id a. high id (omega arith) (λ e. omega arith) (λ e. omega arith) (λ e. omega arith) in
-      let fork : Rising 10 (121 ∷ 122 ∷ 123 ∷ []) = (λ id a b. high id a (λ e. omega arith) (λ e. omega arith) (λ e. omega arith), (none, (none, after))) in
-      (λ id a b. low id b, (none, (none, (none, (none, (none, (none, (none, (none, fork)))))))))
+      let between : (id : ℕ) → 10 ≤ id → id < 121 → lookup t id ≡ Absent = λ id a b. lookup-none t id (λ c. a) (λ e. omega arith) (λ e. omega arith) (λ e. omega arith) in
+      let after : (id : ℕ) → 124 ≤ id → lookup t id ≡ Absent = λ id a. lookup-none t id (λ c. omega arith) (λ e. omega arith) (λ e. omega arith) (λ e. omega arith) in
+      (before, (none, (none, (none, (none, (none, (none, (none, (none, (between, (none, (none, after))))))))))))
 
   module _ (m : ParameterMap) where
     -- every entry of a smaller id stands
@@ -69,7 +60,7 @@ module _ (t : Table) where
 
     -- entries that are absent from a number on stand as well
     past : (from id : ℕ) → Below from → (from ≤ id → lookup t id ≡ Absent) → Stands t m id
-    past from id h r = by-test (ltb id from) (λ e. h id (ltb-true id from e)) (λ e x q. absent-number x (sym (r (ltb-false id from e)) ∙ q))
+    past from id h r = by-test (ltb id from) (λ e. h id (ltb-true id from e)) (λ e x q. absurd (absent-number x (sym (r (ltb-false id from e)) ∙ q)))
 
     next-below : (n : ℕ) → Below n → Stands t m n → Below (suc n)
     next-below n h s id l =
@@ -77,7 +68,7 @@ module _ (t : Table) where
 
     found : (id : ℕ) → agrees (lookup t id) (entryOf m id) ≡ false → Below id → LeastCarried t m (matched id)
     unfolding matched agrees
-    found zero e h = absurd (true≢false (sym (ap (λ (v : Value). agrees v (entryOf m 0)) (low 0 (omega arith))) ∙ e))
+    found zero e h = absurd (true≢false (sym (ap (λ (v : Value). agrees v (entryOf m 0)) (before 0 (omega arith) (omega arith))) ∙ e))
     found (suc id) e h = inr ((differing (lookup t (suc id)) (entryOf m (suc id)) e, h), refl)
 
     -- the search through such a list

@@ -2,19 +2,23 @@
 -- Assumes nothing.
 use mathlib.Core.Path.{_≡_, refl, sym, ap, _∙_}
 use mathlib.Core.Bool.{true, false}
-use Prim.Native.Nat.{ℕ, _-_, _≤_}
+use Prim.Native.Nat.{ℕ, _-_, _≤_, _<_}
 use native.Mathlib.Omega.{arith}
 use lib.Dec.{ltb, leb, eqb}
+use lib.IntN.{ℤ}
 use lib.ListN.{getD, set, length, length-set}
 use lib.Seq.{getD-set-same, getD-set-other}
-use borrow.Author.Tests.{ltb-false, eqb-true, leb-true, le-ltb, ne-eqb}
+use borrow.Author.Tests.{ltb-false, eqb-true, leb-true, lt-ltb, le-ltb, ne-eqb}
 use Rattle.voting.specs.declared.table.Value.{Value}
-use Rattle.voting.specs.declared.table.Value.the-variants.{Absent}
+use Rattle.voting.specs.declared.table.Value.the-variants.{Absent, Number}
 use Rattle.voting.specs.declared.table.Slot.{Slot}
 use Rattle.voting.specs.declared.table.Table.{Table}
 use Rattle.voting.specs.Table.{slot, forkEntries, withFork, lookup, update}
 use Rattle.voting.specs.Ordinary.{known}
 use Rattle.voting.proofs.Laws.Tests.{by-test, both}
+
+pub absent-number : (x : ℤ) → Absent ≡ Number x → ⊥
+absent-number x e = let z : _≡_ {A = ℕ} 0 1 = cc in omega arith
 
 pub known-range : (m : ℕ) → known m ≡ true → (1 ≤ m) × (m ≤ 9)
 unfolding known
@@ -37,6 +41,13 @@ update-known t m v k = let e = known-tests m k in simp (e .0, e .1, e .2, e .3, 
 lookup-known : (t : Table) (m : ℕ) → known m ≡ true → lookup t m ≡ getD (t .ordinary) (m - 1) (slot Absent) .value
 unfolding lookup
 lookup-known t m k = let e = known-tests m k in simp (e .0, e .1, e .2, e .3, e .4)
+
+-- no other id has an entry: 0, 10 to 120, and 124 on
+pub lookup-none : (t : Table) (id : ℕ) → (1 ≤ id → 9 < id) → (id ≡ 121 → ⊥) → (id ≡ 122 → ⊥) → (id ≡ 123 → ⊥) → lookup t id ≡ Absent
+unfolding lookup
+lookup-none t id h a b c =
+    rw (ne-eqb id 121 a, ne-eqb id 122 b, ne-eqb id 123 c)
+    (by-test (ltb id 1) (λ e. rw e) (λ e. rw (e, lt-ltb 9 id (h (ltb-false id 1 e)))))
 
 pub lookup-update-same : (t : Table) (m : ℕ) (v : Value) → known m ≡ true → length (t .ordinary) ≡ 9 → lookup (update t m v) m ≡ v
 lookup-update-same t m v k l =
