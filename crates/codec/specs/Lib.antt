@@ -4,3 +4,5 @@ pub mod Vlq
 pub mod Signed
 pub mod BigEndian
 pub mod Rule
+pub mod Decimal
+pub mod Put

@@ -1,5 +1,5 @@
 pub mod Lines
-pub mod Put
+pub mod Added
 pub mod Stream
 pub mod Run
 pub mod Driven

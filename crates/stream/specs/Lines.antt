@@ -1,18 +1,12 @@
 -- The lines that the replay prints, as ASCII bytes. docs/RULES.md, "Replay".
 -- Assumes nothing.
-use Prim.Native.Nat.{ℕ, zero, suc, _+_, _/_, _%_}
-use mathlib.Core.Bool.{cond}
+use Prim.Native.Nat.{ℕ, _+_}
 use mathlib.Core.List.{List, [], _∷_, _++_}
-use lib.Dec.{ltb}
 use lib.IntN.{ℤ, pos, negsuc}
+use Rattle.codec.specs.Decimal.{digits, newline}
 use Rattle.voting.specs.declared.table.Value.{Value}
 use Rattle.voting.specs.declared.table.Value.the-variants.{Absent, Number}
 use Rattle.voting.specs.declared.table.Fork.{Fork}
-
--- a number of at most k digits, with no zero in front
-unfoldable pub digits : ℕ → ℕ → List ℕ
-digits zero n = []
-digits (suc k) n = cond (ltb n 10) ((48 + n) ∷ []) (digits k (n / 10) ++ ((48 + n % 10) ∷ []))
 
 -- numbers of 32 bits have at most ten
 unfoldable pub decimal : ℤ → List ℕ
@@ -26,9 +20,6 @@ column (Number z) = decimal z
 
 abbrev pub space : List ℕ
 space = 32 ∷ []
-
-abbrev pub newline : List ℕ
-newline = 10 ∷ []
 
 -- `height version start votes`
 unfoldable pub headLine : List ℕ

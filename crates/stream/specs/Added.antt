@@ -3,14 +3,7 @@ use Prim.Native.Nat.{ℕ, _+_, _≤_}
 use mathlib.Core.Path.{_≡_}
 use mathlib.Core.List.{List, _++_}
 use lib.ListN.{length, take, drop}
-use lib.Seq.{sets}
 use Rattle.stream.specs.Lines.{lineMost}
-
--- the text stands from a position on, and the position after it is known to be small
-pub record Put (text : List ℕ) (most at next : ℕ) (before after : List ℕ) : Type 0 where
-  pub is : after ≡ sets before at text
-  pub ends : next ≡ at + length text
-  pub small : next ≤ at + most
 
 -- the text stands behind what stood before a position, the rest is as it was, and the next position is known
 pub record Added (text : List ℕ) (at next : ℕ) (before after : List ℕ) : Type 0 where
