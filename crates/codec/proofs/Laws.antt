@@ -4,3 +4,4 @@ pub mod BigEndian
 pub mod Output
 pub mod Vlq
 pub mod VlqTrip
+pub mod Decimal

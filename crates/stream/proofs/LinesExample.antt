@@ -3,8 +3,9 @@
 use mathlib.Core.Path.{_≡_, refl}
 use mathlib.Core.List.{[], _∷_}
 use lib.IntN.{pos, negsuc}
+use Rattle.codec.specs.Decimal.{digits}
 use Rattle.voting.specs.declared.table.Value.the-variants.{Absent, Number}
-use Rattle.stream.specs.Lines.{digits, decimal, column, epochLine, endLine}
+use Rattle.stream.specs.Lines.{decimal, column, epochLine, endLine}
 
 -- `1024 1 - -`
 pub epoch-example : epochLine 1024 (record { votes = Absent; start = Absent; version = Number (pos 1) }) ≡

@@ -1,4 +1,5 @@
 // The lines that the replay prints. docs/RULES.md, "Replay".
+use codec::decimal;
 use codec::output;
 use codec::output::Wrote;
 use codec::refusal;
@@ -6,11 +7,12 @@ use voting::table::Fork;
 use voting::table::Value;
 ghost use mathlib.Core.Path.{_≡_};
 ghost use mathlib.Core.List.{[], _∷_};
-ghost use Prim.Native.Nat.{_+_, _≤_};
+ghost use Prim.Native.Nat.{_≤_};
 ghost use lib.ListN.{length, take};
 ghost use Rattle.codec.specs.Output.{outcome, writes};
-ghost use Rattle.stream.specs.Put.{Put};
-ghost use Rattle.stream.specs.Lines.{digits, decimal, column, headLine, epochLine, endLine, lineMost};
+ghost use Rattle.codec.specs.Put.{Put};
+ghost use Rattle.codec.specs.Decimal.{digits};
+ghost use Rattle.stream.specs.Lines.{decimal, column, headLine, epochLine, endLine, lineMost};
 
 // Writes the first line.
 pub fn write_head(out: &mut [u8]) -> Wrote
@@ -56,7 +58,7 @@ fn put_epoch(out: &mut [u8], height: u32, fork: Fork) -> usize
     let version = fork.version;
     let start = fork.start;
     let votes = fork.votes;
-    let a = put_digits(out, 0, height, 10);
+    let a = put_digits(out, 0, height);
     let b = put(out, a, 32);
     let c = put_column(out, b, version);
     let d = put(out, c, 32);
@@ -73,9 +75,9 @@ fn put_end(out: &mut [u8], accepted: u32, refusal: u8) -> usize
     let b = put(out, a, 110);
     let c = put(out, b, 100);
     let d = put(out, c, 32);
-    let e = put_digits(out, d, accepted, 10);
+    let e = put_digits(out, d, accepted);
     let f = put(out, e, 32);
-    let g = put_digits(out, f, refusal as u32, 10);
+    let g = put_digits(out, f, refusal as u32);
     put(out, g, 10)
 }
 
@@ -95,23 +97,16 @@ fn put_decimal(out: &mut [u8], at: usize, x: i32) -> usize
 {
     if x < 0 {
         let k = put(out, at, 45);
-        return put_digits(out, k, (!x) as u32 + 1, 10);
+        return put_digits(out, k, (!x) as u32 + 1);
     }
-    put_digits(out, at, x as u32, 10)
+    put_digits(out, at, x as u32)
 }
 
-fn put_digits(out: &mut [u8], at: usize, n: u32, left: usize) -> usize
-    requires { ⌜ at + left ≤ 1000 ⌝ }
-    ensures { λ r. ⌜ Put (digits left n) left at r (now (out .entry)) (now (out .exit)) ⌝ }
+fn put_digits(out: &mut [u8], at: usize, n: u32) -> usize
+    requires { ⌜ at ≤ 990 ⌝ }
+    ensures { λ r. ⌜ Put (digits 10 n) 10 at r (now (out .entry)) (now (out .exit)) ⌝ }
 {
-    if left == 0 {
-        return at;
-    }
-    if n < 10 {
-        return put(out, at, 48 + n as u8);
-    }
-    let k = put_digits(out, at, n / 10, left - 1);
-    put(out, k, 48 + (n % 10) as u8)
+    at + decimal::put_digits(out, at, n)
 }
 
 // One byte, where the buffer reaches.

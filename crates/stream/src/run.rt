@@ -26,7 +26,7 @@ ghost use Rattle.archive.specs.declared.replay.Verdict.the-variants.{Accepted};
 ghost use Rattle.stream.specs.Lines.{lineMost};
 ghost use Rattle.stream.specs.declared.run.Print.the-variants.{Nothing, End};
 ghost use Rattle.stream.specs.Stream.{missing};
-ghost use Rattle.stream.specs.Put.{Added};
+ghost use Rattle.stream.specs.Added.{Added};
 ghost use Rattle.stream.specs.Run.{prints, endAt, begun, longestRecord, tooShort, Ready, textOf, waitsWith, ended, endsBy, afterReplay, onBytes, tookOf, tookCells, feedOf, lastOf, finishOf, failOf, fedOf, written, Feeds, Ends};
 ghost use Rattle.stream.specs.Driven.{mainnetStart, replayPrints, Begins};
 

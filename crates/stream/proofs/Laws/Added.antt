@@ -11,7 +11,7 @@ use Rattle.codec.specs.declared.output.Wrote.{Wrote}
 use Rattle.codec.specs.declared.output.Wrote.the-variants.{Bytes, Refused}
 use Rattle.codec.specs.Output.{Outcome, wrote, refused, outcome, writes}
 use Rattle.stream.specs.Lines.{lineMost}
-use Rattle.stream.specs.Put.{Added}
+use Rattle.stream.specs.Added.{Added}
 
 abbrev count : Outcome → ℕ
 count (wrote n cells) = n

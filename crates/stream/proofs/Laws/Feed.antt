@@ -18,7 +18,7 @@ use Rattle.stream.specs.declared.run.Fed.{Fed}
 use Rattle.stream.specs.declared.run.Print.{Print}
 use Rattle.stream.specs.declared.run.Print.the-variants.{End}
 use Rattle.stream.specs.Lines.{endLine, lineMost}
-use Rattle.stream.specs.Put.{Added}
+use Rattle.stream.specs.Added.{Added}
 use Rattle.stream.specs.Stream.{unless, printedAfter, Held, of-short, of-unless}
 use Rattle.stream.specs.Run.{endAt, stepOf, held, ahead, longestRecord, tooShort, Ready, textOf, ended, tookOf, tookCells, After, stands, behind, feedBy, feedOf, lastBy, lastOf, finishOf, failOf, fedOf, written, Feeds, Ends}
 use Rattle.stream.proofs.Laws.Added.{added-long, added-front, added-rest}

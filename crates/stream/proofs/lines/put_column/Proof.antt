@@ -3,7 +3,8 @@ use native.Mathlib.Omega.{arith}
 use mir.Syntax.{w32}
 use mir.Val.{SFits}
 use borrow.Author.Needs.{needs}
-use Rattle.stream.proofs.Laws.Lines.{wider, same-text, column-absent, column-number}
+use Rattle.codec.proofs.Laws.Decimal.{wider, same-text}
+use Rattle.stream.proofs.Laws.Lines.{column-absent, column-number}
 use Rattle.stream.proofs.lines.put_column.Statement.{statement}
 use Rattle.stream.proofs.lines.put_column.Tie as tie
 

@@ -2,8 +2,9 @@
 use native.Mathlib.Omega.{arith}
 use mir.Syntax.{w32}
 use borrow.Author.Needs.{needs}
+use Rattle.codec.proofs.Laws.Decimal.{wider, same-text, joined}
 use Rattle.codec.proofs.Laws.Signed.{neg-cast, pos-cast}
-use Rattle.stream.proofs.Laws.Lines.{wider, same-text, joined, decimal-neg, decimal-pos, flipped-fits}
+use Rattle.stream.proofs.Laws.Lines.{decimal-neg, decimal-pos, flipped-fits}
 use Rattle.stream.proofs.lines.put_decimal.Statement.{statement}
 use Rattle.stream.proofs.lines.put_decimal.Tie as tie
 

@@ -1,7 +1,7 @@
 -- `stream::lines::put_end` meets its contract. Assumes nothing.
 use borrow.Author.Needs.{needs}
+use Rattle.codec.proofs.Laws.Decimal.{joined}
 use Rattle.stream.specs.Lines.{endLine}
-use Rattle.stream.proofs.Laws.Lines.{joined}
 use Rattle.stream.proofs.lines.put_end.Statement.{statement}
 use Rattle.stream.proofs.lines.put_end.Tie as tie
 

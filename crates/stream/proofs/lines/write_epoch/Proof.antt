@@ -4,7 +4,7 @@ use mathlib.Core.List.{List}
 use Prim.Native.Nat.{ℕ}
 use borrow.Author.Needs.{needs}
 use Rattle.codec.specs.Output.{writes}
-use Rattle.stream.proofs.Laws.Lines.{read-back}
+use Rattle.codec.proofs.Laws.Decimal.{read-back}
 use Rattle.stream.proofs.lines.write_epoch.Statement.{statement}
 use Rattle.stream.proofs.lines.write_epoch.Tie as tie
 

@@ -1,0 +1,4 @@
+pub mod Votes
+pub mod Lists
+pub mod Next
+pub mod Listing
