@@ -199,6 +199,11 @@ uint8_t ergo_check_header_votes(const uint8_t *votes, size_t votes_len);
 /* The same of headers one after another: the first refusal. One or two bytes left over are no header. */
 uint8_t ergo_check_headers(const uint8_t *votes, size_t votes_len);
 
+/* The first legal header above three vote bytes, legal or not, as numbers of 24 bits with the first byte highest: 3,
+   and its three bytes; or 0 where there is none; or minus 21. Asked again with each answer, from 0, 0, 0 on, it gives
+   every legal header. */
+int64_t ergo_next_legal_votes(const uint8_t *votes, size_t votes_len, uint8_t *out, size_t out_len);
+
 /* The tally of an epoch's headers, ERGO_TALLY_SIZE bytes: 22, 21. ergo_tally_entries reads it. */
 uint8_t ergo_tally_votes_seeded(uint32_t first_height, const uint8_t *votes, size_t votes_len, uint32_t boundary_height,
                                 uint32_t voting_length, uint8_t *out, size_t out_len);

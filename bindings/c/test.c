@@ -1,4 +1,5 @@
-/* The helpers of the header, and the library from C: NULL for a length of 0, outputs that are too short, a boundary. */
+/* The helpers of the header, and the library from C: NULL for a length of 0, outputs that are too short, every legal
+   header, a boundary. */
 #undef NDEBUG
 #include <assert.h>
 #include <stdio.h>
@@ -51,6 +52,24 @@ static void tallies(void) {
     assert(entries[0].id == -1 && entries[0].count == 3 && entries[1].id == 120 && entries[1].count == 1);
 }
 
+/* Every legal header, from 0, 0, 0 on. */
+static void legal_headers(void) {
+    const uint8_t last[] = {255, 254, 120}; /* 16,776,824 */
+    uint8_t votes[] = {0, 0, 0}, cells[4];
+    size_t count = 1;
+    memset(cells, UNTOUCHED, sizeof cells);
+    while (ergo_next_legal_votes(votes, sizeof votes, cells, sizeof cells) == 3) {
+        assert(memcmp(cells, votes, sizeof votes) > 0 && untouched(cells + 3, 1));
+        memcpy(votes, cells, sizeof votes);
+        count++;
+    }
+    assert(count == 381787 && memcmp(votes, last, sizeof last) == 0);
+    memset(cells, UNTOUCHED, sizeof cells);
+    assert(ergo_next_legal_votes(last, sizeof last, cells, sizeof cells) == 0);
+    assert(ergo_next_legal_votes(last, sizeof last, NULL, 0) == 0);
+    assert(untouched(cells, sizeof cells));
+}
+
 static void boundary(void) {
     const ergo_entry tally[] = {{1, 513}, {-2, 513}, {3, 512}};
     uint8_t question[ERGO_QUESTION_SIZE], out[ERGO_COMPUTED_SIZE];
@@ -84,6 +103,7 @@ static void nothing_lent(void) {
     assert(ergo_default_parameters(ERGO_MAINNET, NULL, 0) == ERGO_OUTPUT_SHORT);
     assert(ergo_soft_fork_approved(NULL, 0, 1) == 1 && ergo_change_approved(NULL, 0, 0) == 0);
     assert(ergo_check_header_votes(NULL, 0) == 0 && ergo_check_headers(NULL, 0) == 0);
+    assert(ergo_next_legal_votes(NULL, 0, NULL, 0) == -ERGO_OUTPUT_SHORT);
     assert(ergo_tally_votes_seeded(0, NULL, 0, 0, 0, NULL, 0) == ERGO_OUTPUT_SHORT);
     assert(ergo_check_fork_vote(NULL, 0, 0, NULL, 0, NULL, 0) == 0);
     assert(ergo_compute_boundary_parameters(NULL, 0, NULL, 0, NULL, 0, NULL, 0) == ERGO_VOTING_LENGTH_ZERO);
@@ -114,6 +134,7 @@ static void outputs_that_are_too_short(void) {
     memset(cells, UNTOUCHED, sizeof cells);
     assert(ergo_default_parameters(ERGO_TESTNET, cells, ERGO_TABLE_SIZE - 1) == ERGO_OUTPUT_SHORT);
     assert(ergo_open(1024, table, sizeof table, cells, ERGO_STATE_SIZE - 1) == ERGO_OUTPUT_SHORT);
+    assert(ergo_next_legal_votes(NULL, 0, cells, 2) == -ERGO_OUTPUT_SHORT);
     assert(ergo_write_end(1, 0, cells, 7) == -ERGO_OUTPUT_SHORT);
     assert(untouched(cells, sizeof cells));
     assert(ergo_write_end(1, 0, cells, sizeof cells) == 8);
@@ -127,6 +148,7 @@ int main(void) {
     numbers();
     tables();
     tallies();
+    legal_headers();
     boundary();
     states();
     answers();

@@ -14,7 +14,7 @@ import enum
 import os
 import re
 import struct
-from collections.abc import Iterable, Mapping, Sequence
+from collections.abc import Iterable, Iterator, Mapping, Sequence
 from dataclasses import dataclass
 from pathlib import Path
 from typing import Callable
@@ -116,6 +116,7 @@ SIGNATURES = """
     ergo_parameter_step(id: i8, out: &mut [u8]) -> u8
     ergo_check_header_votes(votes: &[u8]) -> u8
     ergo_check_headers(votes: &[u8]) -> u8
+    ergo_next_legal_votes(votes: &[u8], out: &mut [u8]) -> i64
     ergo_tally_votes_seeded(first_height: u32, votes: &[u8], boundary_height: u32, voting_length: u32, out: &mut [u8]) -> u8
     ergo_check_fork_vote(settings: &[u8], height: u32, votes: &[u8], table: &[u8]) -> u8
     ergo_compute_boundary_parameters(tally: &[Entry], proposed_update: &[u8], question: &[u8], out: &mut [u8]) -> u8
@@ -404,6 +405,20 @@ def check_header_votes(votes: bytes) -> None:
 def check_headers(votes: bytes) -> None:
     """The same of headers one after another: the first refusal. One or two bytes left over are no header."""
     _accept(call("ergo_check_headers", votes))
+
+
+def next_legal_votes(votes: bytes) -> bytes | None:
+    """The first legal header above votes, legal or not, as numbers of 24 bits with the first byte highest; None where there is
+    none."""
+    return _written(3, "ergo_next_legal_votes", _exactly(3, votes)) or None
+
+
+def legal_votes() -> Iterator[bytes]:
+    """Every legal header, in rising order from 0, 0, 0 on."""
+    votes: bytes | None = bytes(3)
+    while votes is not None:
+        yield votes
+        votes = next_legal_votes(votes)
 
 
 def tally_votes_seeded(first_height: int, votes: bytes, boundary_height: int, voting_length: int) -> Tally:

@@ -34,6 +34,8 @@ from ergo_voting import (
     extract_disabling_rules_from_kv,
     field_at,
     head_line,
+    legal_votes,
+    next_legal_votes,
     pack_extension_bytes,
     pack_parameters_to_kv,
     parameter_max,
@@ -93,6 +95,24 @@ class Votes(Case):
         votes = bytes((1, 2, 120)) * 70_000
         check_headers(votes)
         self.refused(Refusal.TOO_MANY_VOTES, check_headers, votes[:-1] + bytes((3,)))
+
+    def test_the_next_legal_header(self):
+        after = lambda *votes: next_legal_votes(bytes(votes))
+        self.assertEqual(after(0, 0, 0), bytes((0, 0, 1)))
+        self.assertEqual(after(1, 2, 0), bytes((1, 2, 120)))
+        self.assertEqual(after(1, 2, 120), bytes((1, 3, 0)))
+        self.assertEqual(after(1, 2, 200), bytes((1, 3, 0)))  # after one that is illegal
+        self.assertEqual(after(255, 254, 119), bytes((255, 254, 120)))
+        self.assertIsNone(after(255, 254, 120))
+        self.assertIsNone(after(255, 255, 255))
+        self.assertRaises(ValueError, next_legal_votes, bytes(2))
+
+    def test_every_legal_header(self):
+        headers = list(legal_votes())
+        self.assertEqual(len(headers), 381_787)
+        self.assertEqual(headers[0], bytes(3))
+        self.assertTrue(all(before < after for before, after in zip(headers, headers[1:])))
+        self.assertEqual(int.from_bytes(headers[-1], "big"), 16_776_824)
 
     def test_a_tally_has_the_places_of_its_first_header(self):
         votes = bytes((0xFF, 0, 120, 0xFF, 0xFF, 2, 120, 0, 0))
@@ -429,6 +449,7 @@ class Lent(Case):
         self.fills(5, "ergo_parameter_max", 1)
         self.fills(5, "ergo_parameter_step", 1)
         self.fills(15, "ergo_tally_votes_seeded", 1_024, bytes((1, 0, 0)), 2_048, 1_024)
+        self.fills(3, "ergo_next_legal_votes", bytes(3))
         self.fills(84, "ergo_compute_boundary_parameters", [], b"", question)
         self.fills(12, "ergo_parse_extension_bytes", body)
         self.fills(16, "ergo_field_at", body, 33)
@@ -446,6 +467,17 @@ class Lent(Case):
         self.fills(27, "ergo_write_head")
         self.fills(11, "ergo_write_epoch", 1_024, table)
         self.fills(8, "ergo_write_end", 1, 0)
+
+    def test_the_next_legal_header_into_cells(self):
+        short, cells = bytearray(b"\xee" * 2), bytearray(b"\xee" * 4)
+        last = bytes((255, 254, 120))
+        self.assertEqual(call("ergo_next_legal_votes", bytes(3), short), -21)
+        self.assertEqual(short, b"\xee" * 2)
+        self.assertEqual(call("ergo_next_legal_votes", last, cells), 0)
+        self.assertEqual(call("ergo_next_legal_votes", last, bytearray()), 0)
+        self.assertEqual(cells, b"\xee" * 4)
+        self.assertEqual(call("ergo_next_legal_votes", bytes((1,)), cells), 3)  # a byte past the end counts as 0
+        self.assertEqual(cells, bytes((1, 0, 2, 0xEE)))
 
     def test_a_state_that_is_too_short(self):
         short = bytearray(State.open(1_024, MAINNET).to_bytes()[:94])

@@ -2,6 +2,7 @@
 
 pub mod answers;
 pub mod inputs;
+pub mod listing;
 pub mod lists;
 pub mod record;
 pub mod refusal;

@@ -1,10 +1,10 @@
-//! `oracle lists FOLDER`, `oracle streams FOLDER`, `oracle rows FOLDER`, `oracle replay`.
+//! `oracle lists FOLDER`, `oracle streams FOLDER`, `oracle rows FOLDER`, `oracle listing`, `oracle replay`.
 
-use std::io::{self, Read, Write};
+use std::io::{self, BufWriter, Read, Write};
 use std::path::Path;
 use std::process::ExitCode;
 
-use oracle::{lists, replay, rows, streams};
+use oracle::{listing, lists, replay, rows, streams};
 
 fn main() -> io::Result<ExitCode> {
     let arguments: Vec<String> = std::env::args().skip(1).collect();
@@ -12,9 +12,10 @@ fn main() -> io::Result<ExitCode> {
         ["lists", folder] => run_lists(Path::new(folder)),
         ["streams", folder] => print_lines(streams::write(Path::new(folder))?),
         ["rows", folder] => print_lines(rows::write(Path::new(folder))?),
+        ["listing"] => print_listing(),
         ["replay"] => replay_input(),
         _ => {
-            eprintln!("oracle lists FOLDER | oracle streams FOLDER | oracle rows FOLDER | oracle replay");
+            eprintln!("oracle lists FOLDER | oracle streams FOLDER | oracle rows FOLDER | oracle listing | oracle replay");
             Ok(ExitCode::from(2))
         }
     }
@@ -34,6 +35,13 @@ fn run_lists(folder: &Path) -> io::Result<ExitCode> {
 
 fn print_lines(lines: Vec<String>) -> io::Result<ExitCode> {
     lines.iter().for_each(|line| println!("{line}"));
+    Ok(ExitCode::SUCCESS)
+}
+
+fn print_listing() -> io::Result<ExitCode> {
+    let mut out = BufWriter::new(io::stdout().lock());
+    listing::write(&mut out)?;
+    out.flush()?;
     Ok(ExitCode::SUCCESS)
 }
 

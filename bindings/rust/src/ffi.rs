@@ -44,6 +44,7 @@ library! {
 
     fn ergo_check_header_votes(votes: &[u8]) -> u8;
     fn ergo_check_headers(votes: &[u8]) -> u8;
+    fn ergo_next_legal_votes(votes: &[u8], out: &mut [u8]) -> i64;
     fn ergo_tally_votes_seeded(first_height: u32, votes: &[u8], boundary_height: u32, voting_length: u32, out: &mut [u8]) -> u8;
     fn ergo_check_fork_vote(settings: &[u8], height: u32, votes: &[u8], table: &[u8]) -> u8;
 

@@ -45,6 +45,7 @@ fn outputs() {
     fills(95, |out| ergo_open(1_024, &table, out));
     fills(5, |out| refusal(ergo_parse_parameters_from_kv(&body, out)));
     fills(20, |out| refusal(ergo_read_record(record, 3_072, out)));
+    fills(3, |out| refusal(ergo_next_legal_votes(&[0; 3], out)));
 }
 
 #[test]
@@ -56,6 +57,21 @@ fn a_proposed_update_that_does_not_fit() {
     assert_eq!(ergo_extract_disabling_rules_from_kv(&body, &mut out), 2);
     assert_eq!(out, [5, 6, 0xee]);
     assert_eq!(ergo_extract_disabling_rules_from_kv(&[], &mut []), 0);
+}
+
+#[test]
+fn the_next_legal_header_into_cells() {
+    let mut out = [0xee; 4];
+    assert_eq!(ergo_next_legal_votes(&[0; 3], &mut out[..2]), -21);
+    assert_eq!(ergo_next_legal_votes(&[255, 254, 120], &mut out), 0);
+    assert_eq!(ergo_next_legal_votes(&[255, 254, 120], &mut []), 0);
+    assert_eq!(out, [0xee; 4]);
+    assert_eq!(ergo_next_legal_votes(&[1], &mut out), 3, "a byte past the end counts as 0");
+    assert_eq!(out, [1, 0, 2, 0xee]);
+    assert_eq!(ergo_next_legal_votes(&[], &mut out), 3);
+    assert_eq!(out, [0, 0, 1, 0xee]);
+    assert_eq!(ergo_next_legal_votes(&[1, 2, 0, 9], &mut out), 3, "a byte after the votes is not looked at");
+    assert_eq!(out, [1, 2, 120, 0xee]);
 }
 
 #[test]

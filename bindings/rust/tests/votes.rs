@@ -1,8 +1,8 @@
 //! Header votes, tallies, fork checks, approvals and limits.
 
 use ergo_voting::{
-    check_fork_vote, check_header_votes, check_headers, parameter_max, parameter_min, parameter_step, tally_votes_seeded, Entry,
-    Network, Refusal, Settings, Table, Tally,
+    check_fork_vote, check_header_votes, check_headers, legal_votes, next_legal_votes, parameter_max, parameter_min,
+    parameter_step, tally_votes_seeded, Entry, Network, Refusal, Settings, Table, Tally,
 };
 
 const FORK: [u8; 3] = [120, 0, 0];
@@ -34,6 +34,28 @@ fn any_number_of_headers_is_checked() {
     assert_eq!(check_headers(&votes), Ok(()));
     *votes.last_mut().expect("a vote") = 3;
     assert_eq!(check_headers(&votes), Err(Refusal::TooManyVotes));
+}
+
+#[test]
+fn the_next_legal_header() {
+    assert_eq!(next_legal_votes([0, 0, 0]), Some([0, 0, 1]));
+    assert_eq!(next_legal_votes([1, 2, 0]), Some([1, 2, 120]));
+    assert_eq!(next_legal_votes([1, 2, 120]), Some([1, 3, 0]));
+    assert_eq!(next_legal_votes([1, 2, 200]), Some([1, 3, 0]), "after one that is illegal");
+    assert_eq!(next_legal_votes([255, 254, 119]), Some([255, 254, 120]));
+    assert_eq!(next_legal_votes([255, 254, 120]), None);
+    assert_eq!(next_legal_votes([255; 3]), None);
+}
+
+#[test]
+fn every_legal_header() {
+    let all: Vec<[u8; 3]> = legal_votes().collect();
+    assert_eq!(all.len(), 381_787);
+    assert_eq!(all[0], [0, 0, 0]);
+    assert!(all.windows(2).all(|pair| pair[0] < pair[1]), "in rising order");
+    assert!(all.iter().all(|votes| check_header_votes(*votes).is_ok()));
+    let [a, b, c] = all[all.len() - 1];
+    assert_eq!(u32::from_be_bytes([0, a, b, c]), 16_776_824);
 }
 
 #[test]

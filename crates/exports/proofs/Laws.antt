@@ -1,22 +1,25 @@
 -- What a call answers in one number, by its tests. Assumes nothing.
 use mathlib.Core.Path.{_≡_, refl, sym, ap, subst, _∙_}
 use mathlib.Core.Bool.{Bool, true, false, cond}
-use mathlib.Core.List.{List, _++_}
+use mathlib.Core.List.{List, [], _++_}
 use Prim.Native.Nat.{ℕ, zero, suc, _+_, _-_, _*_, _^_, _≤_, _<_}
 use native.Mathlib.Nat.{mod-eq-of-lt}
 use native.Mathlib.Omega.{arith}
 use lib.Dec.{leb}
-use lib.ListN.{length, drop}
+use lib.ListN.{length, drop, getD}
 use Rattle.codec.specs.Signed.{bitsOf, modulo}
 use Rattle.codec.specs.Refusal.{outputShort}
 use Rattle.codec.specs.Output.{Outcome, wrote, refused, outcome, writes, writing}
 use Rattle.codec.specs.declared.output.Wrote.{Wrote}
 use Rattle.codec.specs.declared.output.Wrote.the-variants.{Bytes, Refused}
-use Rattle.codec.proofs.Laws.Output.{writing-stop, writing-go}
+use Rattle.codec.proofs.Laws.Output.{done, writing-stop, writing-go}
 use Rattle.wire.specs.Put.{Written}
 use Rattle.exports.specs.Reply.{Reply, reply, answered, numbered, sized, placed, answerOf, numberOf, sizeOf, placeOf, minus}
-use Rattle.exports.specs.Calls.{networkOf}
+use Rattle.exports.specs.Calls.{networkOf, nextAfter, nextBytes}
 use Rattle.voting.specs.declared.settings.Network.the-variants.{Testnet}
+use Rattle.legal.specs.declared.next.NextVotes.{NextVotes}
+use Rattle.legal.specs.declared.next.NextVotes.the-variants.{Nothing}
+use Rattle.legal.specs.Legal.{nextLegalVotes}
 
 -- a writer's answer
 module _ (w : Wrote) {r : ℕ} {after : List ℕ} {o : Outcome} where
@@ -58,6 +61,18 @@ through-reply into cells p e = p ∙ ap (λ x. into x cells) e
 
 pub through : {X : Type 0} (into : X → List ℕ → Outcome) {x y : X} {o : Reply} (cells : List ℕ) → o ≡ numbered (into x cells) → x ≡ y → o ≡ numbered (into y cells)
 through into = through-reply (λ x cells. numbered (into x cells))
+
+-- the next legal header: its bytes written, none where there is none, and the three bytes that it was asked with
+pub next-sized : {v w : NextVotes} {o : Reply} (cells : List ℕ) → o ≡ sized (writes (nextBytes v) cells) → v ≡ w → o ≡ sized (writes (nextBytes w) cells)
+next-sized = through-reply (λ v cells. sized (writes (nextBytes v) cells))
+
+pub next-none : (cells : List ℕ) → reply 0 cells ≡ sized (writes (nextBytes Nothing) cells)
+unfolding answered nextBytes
+next-none cells = ap sized (done [] cells 0 refl (omega arith) cells refl)
+
+pub next-after : (votes : List ℕ) {a b c : ℕ} → a ≡ getD votes 0 0 → b ≡ getD votes 1 0 → c ≡ getD votes 2 0 → nextLegalVotes a b c ≡ nextAfter votes
+unfolding nextAfter
+next-after votes p q r = rw (p, q, r)
 
 -- where 0 is answered, a writer was not refused
 abbrev numberIn : Outcome → ℕ

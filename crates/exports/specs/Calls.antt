@@ -2,7 +2,8 @@
 -- Assumes nothing.
 use Prim.Native.Nat.{ℕ, zero, suc}
 use mathlib.Core.Bool.{Bool, cond}
-use mathlib.Core.List.{List}
+use mathlib.Core.List.{List, [], _∷_}
+use lib.ListN.{getD}
 use Rattle.codec.specs.Refusal.{recordMalformed}
 use Rattle.codec.specs.Output.{Outcome, refused, writes, writing}
 use Rattle.voting.specs.declared.settings.Network.{Network}
@@ -24,6 +25,9 @@ use Rattle.extension.specs.declared.update.ParsedUpdate.{ParsedUpdate}
 use Rattle.extension.specs.declared.boundary.Computed.{Computed}
 use Rattle.extension.specs.Boundary.{computedOf}
 use Rattle.lent.specs.declared.boundary.BoundaryAt.{BoundaryAt}
+use Rattle.legal.specs.declared.next.NextVotes.{NextVotes}
+use Rattle.legal.specs.declared.next.NextVotes.the-variants.{Votes, Nothing}
+use Rattle.legal.specs.Legal.{nextLegalVotes}
 use Rattle.archive.specs.declared.record.RecordAt.{RecordAt}
 use Rattle.archive.specs.declared.record.RecordAt.the-variants.{Whole, Short, Malformed}
 use Rattle.archive.specs.declared.replay.Verdict.{Verdict}
@@ -56,6 +60,14 @@ matchedCode m = withId (m .refusal) (m .id)
 
 unfoldable pub verdictCode : Verdict → ℕ
 verdictCode v = withId (verdictNumber v) (verdictId v)
+
+-- the next legal header after three vote bytes, and its bytes: none where there is none
+unfoldable pub nextAfter : List ℕ → NextVotes
+nextAfter votes = nextLegalVotes (getD votes 0 0) (getD votes 1 0) (getD votes 2 0)
+
+unfoldable pub nextBytes : NextVotes → List ℕ
+nextBytes (Votes a b c) = a ∷ b ∷ c ∷ []
+nextBytes Nothing = []
 
 -- what is written of each answer, where it is not refused
 unfoldable pub openedInto : Opened → List ℕ → Outcome

@@ -1,20 +1,23 @@
 // Votes of headers.
 use crate::answer;
 use archive::headers;
+use legal::next;
+use legal::next::NextVotes;
 use voting::fork;
 use voting::header;
 use voting::tally;
 use wire::numbers;
 use wire::values;
 ghost use mathlib.Core.Path.{_≡_};
+ghost use Rattle.codec.specs.Output.{writes};
 ghost use Rattle.voting.specs.Header.{checkHeaderVotes};
 ghost use Rattle.voting.specs.Tally.{tallyVotesSeeded};
 ghost use Rattle.voting.specs.ForkCheck.{checkForkVote, forkRefusal};
 ghost use Rattle.archive.specs.Headers.{checkHeaders};
 ghost use Rattle.wire.specs.Numbers.{votesAt};
 ghost use Rattle.wire.specs.Values.{tableAt, settingsAt};
-ghost use Rattle.exports.specs.Reply.{reply, numbered};
-ghost use Rattle.exports.specs.Calls.{talliedInto};
+ghost use Rattle.exports.specs.Reply.{reply, numbered, sized};
+ghost use Rattle.exports.specs.Calls.{talliedInto, nextAfter, nextBytes};
 
 // Whether the three votes of a header are legal: 0, or 9, 10, 11.
 #[no_mangle]
@@ -30,6 +33,20 @@ pub extern "C" fn ergo_check_headers(votes: &[u8]) -> u8
     ensures { λ r. ⌜ r ≡ checkHeaders (now (votes .entry)) ⌝ }
 {
     headers::check_headers(votes)
+}
+
+// The first legal header above three vote bytes, into cells: 3, or 0 where there is none; or minus 21.
+#[no_mangle]
+pub extern "C" fn ergo_next_legal_votes(votes: &[u8], out: &mut [u8]) -> usize
+    ensures { λ r. ⌜ reply r (now (out .exit)) ≡ sized (writes (nextBytes (nextAfter (now (votes .entry)))) (now (out .entry))) ⌝ }
+{
+    let a = numbers::byte_at(votes, 0);
+    let b = numbers::byte_at(votes, 1);
+    let c = numbers::byte_at(votes, 2);
+    match next::next_legal_votes(a, b, c) {
+        NextVotes::Votes(x, y, z) => answer::size_of(numbers::write_bytes(&[x, y, z], out)),
+        NextVotes::Nothing => 0,
+    }
 }
 
 // The tally of an epoch's headers, three bytes each, into cells: 0, or 22, 21.

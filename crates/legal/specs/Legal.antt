@@ -52,14 +52,14 @@ nextLegalVotes a b c = firstOf (kept (ltb (number a b c)) allLegal)
 abbrev pub Legal : ℕ → ℕ → ℕ → Type 0
 Legal a b c = checkHeaderVotes (a ∷ b ∷ c ∷ []) ≡ 0
 
--- no legal header has a number above one and below another
-abbrev pub NoneBetween : ℕ → ℕ → Type 0
-NoneBetween n m = (x y z : ℕ) → x < 256 → y < 256 → z < 256 → Legal x y z → n < number x y z → number x y z < m → ⊥
+-- a statement of every legal header
+abbrev pub EveryLegal : (ℕ → Type 0) → Type 0
+EveryLegal P = (x y z : ℕ) → x < 256 → y < 256 → z < 256 → Legal x y z → P (number x y z)
 
--- an answer is legal and above, and no legal header lies between; where there is none, no larger header is legal
+-- an answer is legal and above, and no legal header lies between; where there is none, no legal header is above
 abbrev pub Next : ℕ → NextVotes → Type 0
-Next n (Votes a b c) = Legal a b c × (n < number a b c) × NoneBetween n (number a b c)
-Next n Nothing = NoneBetween n total
+Next n (Votes a b c) = Legal a b c × (n < number a b c) × EveryLegal (λ m. n < m → m < number a b c → ⊥)
+Next n Nothing = EveryLegal (λ m. n < m → ⊥)
 
 -- ---- asked again and again
 

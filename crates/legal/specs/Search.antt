@@ -28,6 +28,6 @@ unfoldable pub positionOf : NextVotes → ℕ
 positionOf Nothing = total
 positionOf (Votes a b c) = number a b c
 
--- how many numbers from n on have its bytes up to the last that is not 0
+-- how many numbers from n on begin with its bytes, the zeros at its end left out
 unfoldable pub stepOf : ℕ → ℕ
 stepOf n = cond (eqb (n % 65536) 0) 65536 (cond (eqb (n % 256) 0) 256 1)

@@ -60,7 +60,7 @@ fn is_legal(n: u32) -> bool
     !header::is_illegal((n / 0x1_0000) as u8, (n / 256 % 256) as u8, (n % 256) as u8)
 }
 
-// How many numbers from one on begin with the same bytes, its zeros at the end left out. If it is not legal, none of them is: a legal header stays
+// How many numbers from one on begin with the same bytes, the zeros at its end left out. If it is not legal, none of them is: a legal header stays
 // legal when its last votes are taken away.
 fn step(n: u32) -> u32
     ensures { λ r. ⌜ r ≡ stepOf n ⌝ }

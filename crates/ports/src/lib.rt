@@ -71,7 +71,7 @@ pub fn receive(input: Input, buf: &mut [u8]) -> Came
 {
     let got = read_on(input.descriptor, buf);
     if got < 0 {
-        os::fail(b"replay: a read failed");
+        os::fail(b"a read failed");
         return stopped(input, BROKEN, true);
     }
     let n = io::count(got, buf);
@@ -115,7 +115,7 @@ pub fn send(output: Output, text: &[u8]) -> Sent
     ensures { λ r. ⌜ r .output ≡ sent (r .failed) (wrote output (now (text .entry))) ⌝ }
 {
     if write_on(output.descriptor, text) {
-        os::fail(b"replay: a write failed");
+        os::fail(b"a write failed");
         return handed(output, text.len(), true, true);
     }
     handed(output, text.len(), output.cut, false)

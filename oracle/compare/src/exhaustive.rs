@@ -1,13 +1,16 @@
 //! Inputs that are tried whole.
 
+use ergo_voting::next_legal_votes;
 use oracle::answers::extension::short_strings;
+use oracle::listing::{accepts, votes_of, TOTAL};
 
 use crate::report::Report;
 
 type Run = fn() -> Report;
 
-pub const KINDS: [(&str, Run); 4] = [
+pub const KINDS: [(&str, Run); 5] = [
     ("header votes, all", all_headers),
+    ("next legal header, all", next_headers),
     ("bodies of up to two bytes after the id, all", short_bodies),
     ("updates of up to three bytes, all", short_updates),
     ("rules, limits, settings and defaults, all", tables),
@@ -17,6 +20,19 @@ fn all_headers() -> Report {
     let mut report = Report::default();
     for header in 0..1u32 << 24 {
         report.compare(0x11, &header.to_be_bytes()[1..]);
+    }
+    report
+}
+
+/// From the last header down: the next one is the last that the Rust accepted on the way.
+fn next_headers() -> Report {
+    let mut report = Report::default();
+    let mut next = None;
+    for votes in (0..TOTAL).rev().map(votes_of) {
+        report.compare_headers(votes, next, next_legal_votes(votes));
+        if accepts(votes) {
+            next = Some(votes);
+        }
     }
     report
 }

@@ -75,6 +75,18 @@ impl Report {
         });
     }
 
+    /// Compares the headers that are answered for one; there may be none.
+    pub fn compare_headers(&mut self, votes: [u8; 3], rust: Option<[u8; 3]>, library: Option<[u8; 3]>) {
+        let shown = |header: Option<[u8; 3]>| header.map_or("none".to_owned(), |header| hex(&header));
+        self.compared += 1;
+        self.count(rust == library, || Difference {
+            input: format!("the next legal header after {}", hex(&votes)),
+            size: votes.len(),
+            rust: shown(rust),
+            library: shown(library),
+        });
+    }
+
     /// Compares texts for an input of records, line by line.
     pub fn compare_texts(&mut self, input: &[u8], rust: &[u8], library: &[u8]) {
         let line =

@@ -210,7 +210,7 @@ fits-left (n ∷ ns) room = go (ltb room lineMost) (fits-left ns (room - length 
         append-assoc (lineOf n) (linesOf (fitting (room - length (lineOf n)) ns)) (linesOf (leftOver (room - length (lineOf n)) ns))
         ∙ ap (λ (l : List ℕ). lineOf n ++ l) ih
 
-one-piece : (at : NextVotes) (room : ℕ) → textOf at room ++ linesOf (restOf (nextOf at room)) ≡ linesOf (restOf at)
+pub one-piece : (at : NextVotes) (room : ℕ) → textOf at room ++ linesOf (restOf (nextOf at room)) ≡ linesOf (restOf at)
 unfolding textOf
 one-piece at room = go (ltb room lineMost) refl
   where
@@ -228,7 +228,7 @@ all-pieces (room ∷ rooms) at =
     ∙ one-piece at room
 
 -- from the beginning
-begins : linesOf (restOf (Votes 0 0 0)) ≡ listing
+pub begins : linesOf (restOf (Votes 0 0 0)) ≡ listing
 unfolding listing positionOf
 begins = ap linesOf (rest-is (Votes 0 0 0) ∙ from-zero)
 

@@ -240,7 +240,7 @@ next-found a b c n e = ap (λ (m : ℕ). votesAt (firstFrom (m + 1))) e ∙ sym 
 -- what it means
 next-means : (n : ℕ) (qs : List ℕ) → legalFrom (n + 1) ≡ qs → Next n (firstOf qs)
 unfolding firstOf
-next-means n [] e = λ x y z hx hy hz l g k. was-illegal x y z (number x y z) hy hz refl (none-legal (n + 1) e (number x y z) (omega arith) k) l
+next-means n [] e = λ x y z hx hy hz l g. was-illegal x y z (number x y z) hy hz refl (none-legal (n + 1) e (number x y z) (omega arith) (omega arith)) l
 next-means n (q ∷ qs) e =
     let f = first-legal (n + 1) q qs e in
     let s : number (q / 65536) (q / 256 % 256) (q % 256) ≡ q = omega arith in (

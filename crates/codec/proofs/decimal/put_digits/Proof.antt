@@ -27,7 +27,7 @@ returns : tie.Need-returns
 returns c =
     let p = c .before .before .before .before .before .before .put-most .ensures in (
       omega (arith, p .ends),
-      (handed-on _ _ _ _ _ p (omega arith) _ _ _ (c .before .before .put-bytes .ensures), (digits-decimal 9 _ (search needs), omega (arith, p .small))),
+      (handed-on _ _ _ _ _ p (omega arith) _ _ _ (c .before .before .put-bytes .ensures), (digits-decimal _ _ (search needs), omega (arith, p .small))),
     )
 
 pub put-digits-spec : {M : Type 1} → statement M
