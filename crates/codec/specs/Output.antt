@@ -19,10 +19,14 @@ abbrev pub outcome : Wrote → List ℕ → Outcome
 outcome (Bytes n) cells = wrote n cells
 outcome (Refused e) cells = refused e cells
 
--- the bytes stand from the buffer's start and no other cell changes; where they do not fit, 21 and the buffer as it was
+-- the bytes stand from the buffer's start, and no other cell changes
+abbrev pub written : List ℕ → List ℕ → List ℕ
+written bytes cells = bytes ++ drop (length bytes) cells
+
+-- where they do not fit, 21 and the buffer as it was
 unfoldable pub writes : List ℕ → List ℕ → Outcome
 writes bytes cells =
-    cond (leb (length bytes) (length cells)) (wrote (length bytes) (bytes ++ drop (length bytes) cells)) (refused outputShort cells)
+    cond (leb (length bytes) (length cells)) (wrote (length bytes) (written bytes cells)) (refused outputShort cells)
 
 -- a refusal that comes before the test of the length, 0 for none
 unfoldable pub writing : ℕ → List ℕ → List ℕ → Outcome

@@ -1,6 +1,6 @@
 -- The last legal number, and lines of the listing, computed.
 -- Assumes nothing.
-use mathlib.Core.Path.{_≡_, refl, _∙_}
+use mathlib.Core.Path.{_≡_, refl}
 use mathlib.Core.List.{[], _∷_}
 use Rattle.codec.specs.Decimal.{digits}
 use Rattle.codec.specs.Signed.{modulo, bitsOf, signedOf, wrapped}

@@ -5,9 +5,9 @@ use codec::decimal;
 use codec::output;
 use codec::refusal;
 ghost use mathlib.Core.Path.{_≡_};
-ghost use mathlib.Core.List.{_++_};
 ghost use Prim.Native.Nat.{_+_, _<_, _≤_};
-ghost use lib.ListN.{length, drop};
+ghost use lib.ListN.{length};
+ghost use Rattle.codec.specs.Output.{written};
 ghost use Rattle.codec.specs.Put.{Put};
 ghost use Rattle.legal.specs.declared.next.NextVotes.the-variants.{Votes};
 ghost use Rattle.legal.specs.Legal.{total};
@@ -37,7 +37,7 @@ pub fn begin() -> NextVotes
 // Fills a buffer with the lines of the legal numbers from a position on, as long as the longest line has room.
 pub fn fill(at: NextVotes, out: &mut [u8]) -> Filled
     ensures { λ r. ⌜ r ≡ fillOf at (length (now (out .entry))) ⌝ }
-    ensures lines { λ r. ⌜ now (out .exit) ≡ textOf at (length (now (out .entry))) ++ drop (length (textOf at (length (now (out .entry))))) (now (out .entry)) ⌝ }
+    ensures lines { λ r. ⌜ now (out .exit) ≡ written (textOf at (length (now (out .entry)))) (now (out .entry)) ⌝ }
     ensures inside { λ r. ⌜ r .wrote ≤ length (now (out .entry)) ⌝ }
     ensures goes_on { λ r. ⌜ GoesOn at (length (now (out .entry))) ⌝ }
 {

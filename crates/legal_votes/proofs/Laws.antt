@@ -1,15 +1,15 @@
 -- The listing, handed over piece by piece.
 -- Assumes nothing.
-use mathlib.Core.Path.{_≡_, refl, sym, ap, _∙_}
+use mathlib.Core.Path.{_≡_, sym, ap, _∙_}
 use mathlib.Core.Bool.{Bool, true, false, true≢false}
 use mathlib.Core.List.{List, [], _++_, append-assoc, append-nil}
 use Prim.Native.Nat.{ℕ, _-_, _≤_, _<_}
 use native.Mathlib.Omega.{arith}
-use lib.ListN.{length, take, drop, length-append}
-use lib.Seq.{take-at}
+use lib.ListN.{length, take}
+use Rattle.codec.specs.Output.{written}
 use Rattle.ports.specs.declared.Output.{Output}
-use Rattle.ports.specs.declared.Sent.{Sent}
 use Rattle.ports.specs.Ports.{unwritten, wrote, sent, wrote-on, wrote-none}
+use Rattle.ports.proofs.Laws.{text-sent}
 use Rattle.legal.specs.declared.next.NextVotes.{NextVotes}
 use Rattle.legal.specs.declared.next.NextVotes.the-variants.{Votes, Nothing}
 use Rattle.legal.specs.declared.listing.Filled.{Filled}
@@ -27,7 +27,7 @@ printing-starts to at o p q = record {
 
 -- a piece that was filled in
 module _ (at : NextVotes) (out : List ℕ) (f : Filled) (is-filled : f ≡ fillOf at (length out)) (out′ : List ℕ)
-    (lines : out′ ≡ textOf at (length out) ++ drop (length (textOf at (length out))) out) where
+    (lines : out′ ≡ written (textOf at (length out)) out) where
   next-is : f .next ≡ nextOf at (length out)
   unfolding fillOf
   next-is = ap (λ (x : Filled). x .next) is-filled
@@ -36,22 +36,11 @@ module _ (at : NextVotes) (out : List ℕ) (f : Filled) (is-filled : f ≡ fillO
   unfolding fillOf
   wrote-is = ap (λ (x : Filled). x .wrote) is-filled
 
-  pub piece-inside : f .wrote ≤ length out′
-  piece-inside = omega (arith, wrote-is, ap length lines, length-append (textOf at (length out)) (drop (length (textOf at (length out))) out))
-
-  front-is : take (f .wrote - 0) out′ ≡ textOf at (length out)
-  front-is =
-      let z : f .wrote - 0 ≡ length (textOf at (length out)) = omega (arith, wrote-is) in
-      ap (λ (k : ℕ). take k out′) z
-      ∙ ap (take (length (textOf at (length out)))) lines
-      ∙ take-at (textOf at (length out)) (drop (length (textOf at (length out))) out) (length (textOf at (length out))) refl
-
   -- and handed over, behind what was
   module _ (to : ℕ) (o : Output) (g : Printing to at o) (failed : Bool) (o′ : Output) (s : o′ ≡ sent failed (wrote o (take (f .wrote - 0) out′))) where
     handed : o′ ≡ sent failed (wrote (unwritten to) (g .text ++ textOf at (length out)))
     handed =
-        s
-        ∙ ap (λ (t : List ℕ). sent failed (wrote o t)) front-is
+        text-sent (textOf at (length out)) out out′ lines (f .wrote) wrote-is o failed o′ s
         ∙ ap (λ (x : Output). sent failed (wrote x (textOf at (length out)))) (g .is-output)
         ∙ ap (sent failed) (wrote-on (unwritten to) (g .text) (textOf at (length out)))
 

@@ -1,11 +1,12 @@
--- The calls. Assumes nothing.
-use mathlib.Core.Path.{_≡_, sym, ap, subst, _∙_}
+-- The calls, and a text of a buffer that is handed over. Assumes nothing.
+use mathlib.Core.Path.{_≡_, refl, sym, ap, subst, _∙_}
 use mathlib.Core.Bool.{Bool, true, false}
-use mathlib.Core.List.{List}
-use Prim.Native.Nat.{ℕ, _≤_}
+use mathlib.Core.List.{List, _++_}
+use Prim.Native.Nat.{ℕ, _-_, _≤_}
 use native.Mathlib.Omega.{arith}
 use borrow.Author.Tests.{ne-eqb}
-use lib.ListN.{length, take}
+use lib.ListN.{length, take, drop, length-append}
+use lib.Seq.{take-at}
 use Rattle.ports.specs.declared.Input.{Input}
 use Rattle.ports.specs.declared.Output.{Output}
 use Rattle.ports.specs.declared.Came.{Came}
@@ -37,3 +38,16 @@ module _ (o : Output) (text : List ℕ) (s : Sent) where
 
   pub write-failed : s ≡ record { output = handedBy o (length text) true; failed = true } → Handed s
   write-failed q = subst Handed (sym q) (cut-is o text)
+
+-- a text that stands at a buffer's start, and is handed over from there
+module _ (text out out′ : List ℕ) (q : out′ ≡ text ++ drop (length text) out) where
+  text-front : take (length text) out′ ≡ text
+  text-front = ap (take (length text)) q ∙ take-at text (drop (length text) out) (length text) refl
+
+  pub text-inside : (n : ℕ) → n ≡ length text → n ≤ length out′
+  text-inside n e = let l = length-append text (drop (length text) out) in omega (arith, e, l, ap length q)
+
+  pub text-sent : (n : ℕ) → n ≡ length text → (o : Output) (b : Bool) (o′ : Output) → o′ ≡ sent b (wrote o (take (n - 0) out′)) → o′ ≡ sent b (wrote o text)
+  text-sent n e o b o′ s =
+      let z : n - 0 ≡ length text = omega (arith, e) in
+      s ∙ ap (λ (k : ℕ). sent b (wrote o (take k out′))) z ∙ ap (λ (x : List ℕ). sent b (wrote o x)) text-front

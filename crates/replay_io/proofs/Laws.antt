@@ -8,39 +8,28 @@ use native.Mathlib.Omega.{arith}
 use borrow.Author.Tests.{ltb-false, ne-eqb}
 use lib.Dec.{ltb, eqb}
 use lib.ListN.{length, take, drop, length-append, length-drop, drop-of-length-le}
-use lib.Seq.{take-all, take-at, drop-drop, length-take-le}
+use lib.Seq.{take-all, drop-drop, length-take-le}
 use Rattle.codec.specs.Refusal.{outputShort, recordMalformed}
 use Rattle.codec.specs.declared.output.Wrote.{Wrote}
 use Rattle.codec.specs.declared.output.Wrote.the-variants.{Bytes, Refused}
-use Rattle.codec.specs.Output.{outcome, writes}
+use Rattle.codec.specs.Output.{outcome, writes, written}
 use Rattle.voting.specs.Settings.{mainnet}
 use Rattle.ports.specs.declared.Input.{Input}
 use Rattle.ports.specs.declared.Output.{Output}
+use Rattle.ports.proofs.Laws.{text-inside, text-sent}
 use Rattle.ports.specs.Ports.{unread, unwritten, read, ended, broken, came, wrote, sent, read-on, wrote-on, read-none, wrote-none}
 use Rattle.stream.specs.declared.run.Run.{Run}
 use Rattle.stream.specs.declared.run.Fed.{Fed}
-use Rattle.stream.specs.Lines.{headLine, endLine, lineMost}
-use Rattle.stream.specs.Run.{begun, ahead, longestRecord, Ready, After, feedOf, finishOf, failOf, fedOf, written, Feeds}
+use Rattle.stream.specs.Lines.{headLine, lineMost}
+use Rattle.stream.specs.Run.{begun, ahead, longestRecord, Ready, After, feedOf, finishOf, failOf, fedOf, Feeds}
 use Rattle.stream.specs.Driven.{mainnetStart, replayPrints, Begins}
 use Rattle.stream.proofs.Laws.Added.{never, written-is, front-is}
 use Rattle.stream.proofs.Laws.Run.{ahead-over}
 use Rattle.stream.proofs.Laws.Feed.{end-line, fail-line, finishes}
 use Rattle.replay_io.specs.declared.Done.{Done}
-use Rattle.replay_io.specs.Replays.{Begun, Broken, Replays, most, Feeding, Reading}
+use Rattle.replay_io.specs.Replays.{Replays, most, Feeding, Reading}
 
 -- ---- a text that was written into the buffer and is handed over
-
-module _ (text out out′ : List ℕ) (q : out′ ≡ written text out) where
-  text-front : take (length text) out′ ≡ text
-  text-front = ap (take (length text)) q ∙ take-at text (drop (length text) out) (length text) refl
-
-  pub text-inside : (n : ℕ) → n ≡ length text → n ≤ length out′
-  text-inside n e = let l = length-append text (drop (length text) out) in omega (arith, e, l, ap length q)
-
-  pub text-sent : (n : ℕ) → n ≡ length text → (o : Output) (b : Bool) (o′ : Output) → o′ ≡ sent b (wrote o (take (n - 0) out′)) → o′ ≡ sent b (wrote o text)
-  text-sent n e o b o′ s =
-      let z : n - 0 ≡ length text = omega (arith, e) in
-      s ∙ ap (λ (k : ℕ). sent b (wrote o (take k out′))) z ∙ ap (λ (x : List ℕ). sent b (wrote o x)) text-front
 
 -- the first line
 module _ (out : List ℕ) (h : lineMost ≤ length out) (w : Wrote) (out′ : List ℕ) (q : outcome w out′ ≡ writes headLine out) where

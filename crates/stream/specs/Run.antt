@@ -179,12 +179,9 @@ finishOf r cells room = lastOf r cells (cond (eqb (r .filled) 0) 0 recordMalform
 abbrev pub failOf : Run → List ℕ → ℕ → After
 failOf r cells room = lastOf r cells recordMalformed room
 
--- what the code answers, and what is in the buffer that the text was written into: the text from its start, and the rest as it was
+-- what the code answers
 abbrev pub fedOf : After → Fed
 fedOf a = record { refusal = a .refusal; run = a .run; used = a .used; wrote = length (a .text) }
-
-abbrev pub written : List ℕ → List ℕ → List ℕ
-written text out = text ++ drop (length text) out
 
 -- ---- what the calls mean
 

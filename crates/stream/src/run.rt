@@ -18,7 +18,7 @@ ghost use mathlib.Core.Bool.{_||_};
 ghost use Prim.Native.Nat.{_+_, _≤_};
 ghost use lib.Dec.{ltb, eqb};
 ghost use lib.ListN.{length, take};
-ghost use Rattle.codec.specs.Output.{outcome, writes};
+ghost use Rattle.codec.specs.Output.{outcome, writes, written};
 ghost use Rattle.voting.specs.Settings.{votingLength, mainnet};
 ghost use Rattle.archive.specs.Record.{recordAt};
 ghost use Rattle.archive.specs.Replay.{votesSize};
@@ -27,7 +27,7 @@ ghost use Rattle.stream.specs.Lines.{lineMost};
 ghost use Rattle.stream.specs.declared.run.Print.the-variants.{Nothing, End};
 ghost use Rattle.stream.specs.Stream.{missing};
 ghost use Rattle.stream.specs.Added.{Added};
-ghost use Rattle.stream.specs.Run.{prints, endAt, begun, longestRecord, tooShort, Ready, textOf, waitsWith, ended, endsBy, afterReplay, onBytes, tookOf, tookCells, feedOf, lastOf, finishOf, failOf, fedOf, written, Feeds, Ends};
+ghost use Rattle.stream.specs.Run.{prints, endAt, begun, longestRecord, tooShort, Ready, textOf, waitsWith, ended, endsBy, afterReplay, onBytes, tookOf, tookCells, feedOf, lastOf, finishOf, failOf, fedOf, Feeds, Ends};
 ghost use Rattle.stream.specs.Driven.{mainnetStart, replayPrints, Begins};
 
 // No line has more bytes.

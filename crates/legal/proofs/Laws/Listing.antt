@@ -3,22 +3,23 @@
 use mathlib.Core.Path.{_≡_, refl, sym, ap, _∙_, subst}
 use mathlib.Core.Bool.{Bool, true, false, cond}
 use mathlib.Core.List.{List, [], _∷_, _++_, append-assoc, append-nil}
-use Prim.Native.Nat.{ℕ, zero, suc, _+_, _-_, _/_, _%_, _^_, _≤_, _<_}
+use Prim.Native.Nat.{ℕ, suc, _+_, _-_, _/_, _%_, _≤_, _<_}
 use native.Mathlib.Nat.{zero-add}
 use native.Mathlib.Omega.{arith}
-use lib.Dec.{ltb, leb}
+use lib.Dec.{ltb}
 use lib.ListN.{length, drop, set, length-append}
 use lib.Seq.{sets, sets-eq}
 use borrow.Author.Tests.{lt-ltb, le-ltb, ltb-true, ltb-false}
 use Rattle.codec.specs.Refusal.{outputShort}
 use Rattle.codec.specs.Decimal.{digits, newline}
+use Rattle.codec.specs.Output.{written}
 use Rattle.codec.specs.Put.{Put}
 use Rattle.codec.proofs.Laws.Output.{sets-append}
 use Rattle.codec.proofs.Laws.Decimal.{digits-short}
 use Rattle.legal.specs.declared.next.NextVotes.{NextVotes}
 use Rattle.legal.specs.declared.next.NextVotes.the-variants.{Votes, Nothing}
 use Rattle.legal.specs.declared.listing.Filled.{Filled}
-use Rattle.legal.specs.Legal.{number, kept, total, allLegal, firstOf}
+use Rattle.legal.specs.Legal.{number, total, firstOf}
 use Rattle.legal.specs.Search.{legalFrom, firstFrom, votesAt, positionOf}
 use Rattle.legal.specs.Listing.{lineOf, linesOf, listing, lineMost, restOf, fitting, leftOver, textOf, nextOf, fillOf, pieces, reached, Pieces, GoesOn}
 use Rattle.legal.proofs.Laws.Next.{ended, after-first, from-first, at-least, from-zero, Head, head}
@@ -269,7 +270,7 @@ module _ (at : NextVotes) (before : List ℕ) where
   abbrev Answers : Filled → List ℕ → Type 0
   Answers r after =
       (r ≡ fillOf at (length before))
-      × ((after ≡ textOf at (length before) ++ drop (length (textOf at (length before))) before)
+      × ((after ≡ written (textOf at (length before)) before)
       × ((r .wrote ≤ length before) × GoesOn at (length before)))
 
   -- no line might have room
@@ -307,7 +308,7 @@ module _ (at : NextVotes) (before : List ℕ) where
       fits : 0 + length (textOf at (length before)) ≤ length before
       fits = omega (arith, wrote-is, f .inside)
 
-      cells-are : cells ≡ textOf at (length before) ++ drop (length (textOf at (length before))) before
+      cells-are : cells ≡ written (textOf at (length before)) before
       cells-are =
           ends-text before n₀ cells n wrote f e g
           ∙ ap (sets before 0) text₀

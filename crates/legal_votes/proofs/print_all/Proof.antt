@@ -3,7 +3,7 @@ use Prim.Native.Nat.{_≤_}
 use lib.ListN.{length}
 use Rattle.legal.specs.Listing.{lineMost, restOf}
 use Rattle.legal_votes.specs.Prints.{Printing}
-use Rattle.legal_votes.proofs.Laws.{printing-starts, piece-inside, prints-begun, prints-all, printing-on, printing-less}
+use Rattle.legal_votes.proofs.Laws.{printing-starts, prints-begun, prints-all, printing-on, printing-less}
 use borrow.Author.Needs.{needs}
 use Rattle.legal_votes.proofs.print_all.Statement.{statement}
 use Rattle.legal_votes.proofs.print_all.Tie as tie

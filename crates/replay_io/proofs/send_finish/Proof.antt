@@ -3,7 +3,7 @@ use mathlib.Core.Path.{ap}
 use Rattle.stream.specs.declared.run.Fed.{Fed}
 use Rattle.stream.specs.Run.{finishOf}
 use lib.ListN.{length}
-use Rattle.replay_io.proofs.Laws.{text-inside, text-sent}
+use Rattle.ports.proofs.Laws.{text-inside, text-sent}
 use borrow.Author.Needs.{needs}
 use Rattle.replay_io.proofs.send_finish.Statement.{statement}
 use Rattle.replay_io.proofs.send_finish.Tie as tie

@@ -2,14 +2,15 @@
 -- Assumes nothing.
 use mathlib.Core.Path.{_≡_, refl, sym, ap, subst, _∙_}
 use mathlib.Core.Bool.{Bool, true, false, cond, _||_, true≢false}
-use mathlib.Core.List.{List, [], _∷_, _++_, append-assoc, append-nil}
+use mathlib.Core.List.{List, [], _++_, append-assoc, append-nil}
 use Prim.Native.Nat.{ℕ, zero, suc, _+_, _-_, _≤_, _<_}
 use native.Mathlib.Omega.{arith}
 use native.Mathlib.Numerals.{sub-one}
 use borrow.Author.Tests.{le-ltb, ltb-true, ltb-false, eq-eqb, ne-eqb, eqb-true, eqb-false}
 use lib.Dec.{ltb, eqb}
 use lib.ListN.{length, take, drop, length-append, length-drop, take-append-drop}
-use lib.Seq.{take-all, take-at, length-take-le, drop-drop}
+use lib.Seq.{take-all, length-take-le, drop-drop}
+use Rattle.codec.specs.Output.{written}
 use Rattle.codec.specs.Refusal.{outputShort, recordMalformed}
 use Rattle.voting.specs.declared.settings.VotingConfig.{VotingConfig}
 use Rattle.stream.specs.declared.run.Run.{Run}
@@ -20,7 +21,7 @@ use Rattle.stream.specs.declared.run.Print.the-variants.{End}
 use Rattle.stream.specs.Lines.{endLine, lineMost}
 use Rattle.stream.specs.Added.{Added}
 use Rattle.stream.specs.Stream.{unless, printedAfter, Held, of-short, of-unless}
-use Rattle.stream.specs.Run.{endAt, stepOf, held, ahead, longestRecord, tooShort, Ready, textOf, ended, tookOf, tookCells, After, stands, behind, feedBy, feedOf, lastBy, lastOf, finishOf, failOf, fedOf, written, Feeds, Ends}
+use Rattle.stream.specs.Run.{endAt, stepOf, held, ahead, longestRecord, tooShort, Ready, textOf, ended, tookOf, tookCells, After, stands, behind, feedBy, feedOf, lastBy, lastOf, finishOf, failOf, fedOf, Feeds, Ends}
 use Rattle.stream.proofs.Laws.Added.{added-long, added-front, added-rest}
 use Rattle.stream.proofs.Laws.Stream.{left-none, left-short}
 use Rattle.stream.proofs.Laws.Reading.{lawful, says}

@@ -1,7 +1,6 @@
 -- `legal::listing::begin` meets its contract. Assumes nothing.
 use mathlib.Core.Path.{refl}
 use Rattle.legal.proofs.Laws.Listing.{pieces-all}
-use borrow.Author.Needs.{needs}
 use Rattle.legal.proofs.listing.begin.Statement.{statement}
 use Rattle.legal.proofs.listing.begin.Tie as tie
 

@@ -1,7 +1,6 @@
 -- `legal::listing::stopped` meets its contract. Assumes nothing.
 use mathlib.Core.Path.{ap}
 use Rattle.legal.specs.declared.next.NextVotes.{NextVotes}
-use Rattle.legal.specs.declared.listing.Filled.{Filled}
 use borrow.Author.Needs.{needs}
 use Rattle.legal.proofs.listing.stopped.Statement.{statement}
 use Rattle.legal.proofs.listing.stopped.Tie as tie

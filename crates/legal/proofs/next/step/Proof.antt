@@ -1,6 +1,5 @@
 -- `legal::next::step` meets its contract. Assumes nothing.
 use Rattle.legal.proofs.Laws.Next.{step-block, step-row, step-one}
-use borrow.Author.Needs.{needs}
 use Rattle.legal.proofs.next.step.Statement.{statement}
 use Rattle.legal.proofs.next.step.Tie as tie
 
