@@ -1,25 +1,28 @@
 -- What a call answers in one number, by its tests. Assumes nothing.
 use mathlib.Core.Path.{_≡_, refl, sym, ap, _∙_}
 use mathlib.Core.Bool.{Bool, true, false, cond}
-use mathlib.Core.List.{List, [], _++_}
-use Prim.Native.Nat.{ℕ, zero, suc, _+_, _-_, _^_, _≤_, _<_}
+use mathlib.Core.List.{List, [], _∷_, _++_}
+use Prim.Native.Nat.{ℕ, zero, suc, _+_, _-_, _*_, _^_, _≤_, _<_}
 use native.Mathlib.Nat.{mod-eq-of-lt}
 use native.Mathlib.Omega.{arith}
 use lib.Dec.{leb}
 use lib.ListN.{length, drop, getD}
+use Rattle.codec.specs.BigEndian.{bigEndian}
 use Rattle.codec.specs.Signed.{bitsOf, modulo}
 use Rattle.codec.specs.Refusal.{outputShort}
 use Rattle.codec.specs.Output.{Outcome, wrote, refused, outcome, writes, writing}
 use Rattle.codec.specs.declared.output.Wrote.{Wrote}
 use Rattle.codec.specs.declared.output.Wrote.the-variants.{Bytes, Refused}
 use Rattle.codec.proofs.Laws.Output.{done, writing-stop, writing-go}
+use Rattle.wire.specs.Numbers.{votesAt}
 use Rattle.wire.specs.Put.{Written}
 use Rattle.exports.specs.Reply.{Reply, reply, answered, numbered, sized, placed, answerOf, numberOf, sizeOf, placeOf, minus}
-use Rattle.exports.specs.Calls.{networkOf, nextAfter, nextBytes}
+use Rattle.exports.specs.Calls.{networkOf, nextAfter, nextBytes, walked, WalksAll}
 use Rattle.voting.specs.declared.settings.Network.the-variants.{Testnet}
 use Rattle.legal.specs.declared.next.NextVotes.{NextVotes}
-use Rattle.legal.specs.declared.next.NextVotes.the-variants.{Nothing}
-use Rattle.legal.specs.Legal.{nextLegalVotes}
+use Rattle.legal.specs.declared.next.NextVotes.the-variants.{Votes, Nothing}
+use Rattle.legal.specs.Legal.{number, nextLegalVotes, asked}
+use Rattle.legal.proofs.Laws.Next.{lists-all}
 
 -- a writer's answer
 module _ (w : Wrote) {r : ℕ} {after : List ℕ} {o : Outcome} where
@@ -70,9 +73,22 @@ pub next-none : (cells : List ℕ) → reply 0 cells ≡ sized (writes (nextByte
 unfolding answered nextBytes
 next-none cells = ap sized (done [] cells 0 refl (omega arith) cells refl)
 
-pub next-after : (votes : List ℕ) {a b c : ℕ} → a ≡ getD votes 0 0 → b ≡ getD votes 1 0 → c ≡ getD votes 2 0 → nextLegalVotes a b c ≡ nextAfter votes
+pub next-after : (votes v : List ℕ) → v ≡ votesAt votes 0 → nextLegalVotes (getD v 0 0) (getD v 1 0) (getD v 2 0) ≡ nextAfter votes
 unfolding nextAfter
-next-after votes p q r = rw (p, q, r)
+next-after votes v e = rw e
+
+-- asked with what was written, as with the answer
+walks : (k : ℕ) (v : NextVotes) → walked k (nextBytes v) ≡ asked nextLegalVotes k v
+unfolding walked nextBytes nextAfter bigEndian asked
+walks zero v = refl
+walks (suc k) Nothing = refl
+walks (suc k) (Votes a b c) =
+    let e : a * 65536 + (b * 256 + (c * 1 + 0)) ≡ number a b c = omega arith in
+    ap (λ (n : ℕ). n ∷ walked k (nextBytes (nextLegalVotes a b c))) e ∙ ap (λ (l : List ℕ). number a b c ∷ l) (walks k (nextLegalVotes a b c))
+
+pub walks-all : WalksAll
+unfolding nextBytes
+walks-all k h = walks k (Votes 0 0 0) ∙ lists-all k h
 
 -- where 0 is answered, a writer was not refused
 abbrev numberIn : Outcome → ℕ

@@ -1,9 +1,11 @@
 -- Calls over lent bytes, each by what its bytes stand for. docs/VECTORS.md, "Bytes", has the bytes.
 -- Assumes nothing.
-use Prim.Native.Nat.{ℕ, zero, suc}
+use Prim.Native.Nat.{ℕ, zero, suc, _≤_}
+use mathlib.Core.Path.{_≡_}
 use mathlib.Core.Bool.{Bool, cond}
 use mathlib.Core.List.{List, [], _∷_}
 use lib.ListN.{getD}
+use Rattle.codec.specs.BigEndian.{bigEndian}
 use Rattle.codec.specs.Refusal.{recordMalformed}
 use Rattle.codec.specs.Output.{Outcome, refused, writes, writing}
 use Rattle.voting.specs.declared.settings.Network.{Network}
@@ -27,7 +29,7 @@ use Rattle.extension.specs.Boundary.{computedOf}
 use Rattle.lent.specs.declared.boundary.BoundaryAt.{BoundaryAt}
 use Rattle.legal.specs.declared.next.NextVotes.{NextVotes}
 use Rattle.legal.specs.declared.next.NextVotes.the-variants.{Votes, Nothing}
-use Rattle.legal.specs.Legal.{nextLegalVotes}
+use Rattle.legal.specs.Legal.{nextLegalVotes, total, allLegal}
 use Rattle.archive.specs.declared.record.RecordAt.{RecordAt}
 use Rattle.archive.specs.declared.record.RecordAt.the-variants.{Whole, Short, Malformed}
 use Rattle.archive.specs.declared.replay.Verdict.{Verdict}
@@ -68,6 +70,16 @@ nextAfter votes = nextLegalVotes (getD votes 0 0) (getD votes 1 0) (getD votes 2
 unfoldable pub nextBytes : NextVotes → List ℕ
 nextBytes (Votes a b c) = a ∷ b ∷ c ∷ []
 nextBytes Nothing = []
+
+-- the numbers of at most k headers, the first of them given, each asked for with the bytes that the call before wrote
+unfoldable pub walked : ℕ → List ℕ → List ℕ
+walked zero votes = []
+walked (suc k) [] = []
+walked (suc k) (b ∷ bs) = bigEndian (b ∷ bs) ∷ walked k (nextBytes (nextAfter (b ∷ bs)))
+
+-- from three bytes 0 on, in as many calls as there are numbers or more, every legal number comes, once and in order, and nothing else
+abbrev pub WalksAll : Type 0
+WalksAll = (k : ℕ) → total ≤ k → walked k (0 ∷ 0 ∷ 0 ∷ []) ≡ allLegal
 
 -- what is written of each answer, where it is not refused
 unfoldable pub openedInto : Opened → List ℕ → Outcome

@@ -17,7 +17,7 @@ ghost use Rattle.archive.specs.Headers.{checkHeaders};
 ghost use Rattle.wire.specs.Numbers.{votesAt};
 ghost use Rattle.wire.specs.Values.{tableAt, settingsAt};
 ghost use Rattle.exports.specs.Reply.{reply, numbered, sized};
-ghost use Rattle.exports.specs.Calls.{talliedInto, nextAfter, nextBytes};
+ghost use Rattle.exports.specs.Calls.{talliedInto, nextAfter, nextBytes, WalksAll};
 
 // Whether the three votes of a header are legal: 0, or 9, 10, 11.
 #[no_mangle]
@@ -39,11 +39,10 @@ pub extern "C" fn ergo_check_headers(votes: &[u8]) -> u8
 #[no_mangle]
 pub extern "C" fn ergo_next_legal_votes(votes: &[u8], out: &mut [u8]) -> usize
     ensures { λ r. ⌜ reply r (now (out .exit)) ≡ sized (writes (nextBytes (nextAfter (now (votes .entry)))) (now (out .entry))) ⌝ }
+    ensures lists { λ r. ⌜ WalksAll ⌝ }
 {
-    let a = numbers::byte_at(votes, 0);
-    let b = numbers::byte_at(votes, 1);
-    let c = numbers::byte_at(votes, 2);
-    match next::next_legal_votes(a, b, c) {
+    let v = numbers::votes_of(votes);
+    match next::next_legal_votes(v[0], v[1], v[2]) {
         NextVotes::Votes(x, y, z) => answer::size_of(numbers::write_bytes(&[x, y, z], out)),
         NextVotes::Nothing => 0,
     }

@@ -39,9 +39,12 @@ unfoldable pub allLegal : List ℕ
 allLegal = kept legal (numbers total 0)
 
 -- the first of a list, as three bytes
+abbrev pub votesOf : ℕ → NextVotes
+votesOf n = Votes (n / 65536) (n / 256 % 256) (n % 256)
+
 unfoldable pub firstOf : List ℕ → NextVotes
 firstOf [] = Nothing
-firstOf (n ∷ ns) = Votes (n / 65536) (n / 256 % 256) (n % 256)
+firstOf (n ∷ ns) = votesOf n
 
 -- the first legal number above that of three bytes
 unfoldable pub nextLegalVotes : ℕ → ℕ → ℕ → NextVotes

@@ -1,11 +1,11 @@
 -- The search, as the code goes about it. Laws join it to `nextLegalVotes`. Assumes nothing.
-use Prim.Native.Nat.{ℕ, _-_, _/_, _%_}
+use Prim.Native.Nat.{ℕ, _-_, _%_}
 use mathlib.Core.Bool.{cond}
 use mathlib.Core.List.{List, [], _∷_}
 use lib.Dec.{ltb, eqb}
 use Rattle.legal.specs.declared.next.NextVotes.{NextVotes}
 use Rattle.legal.specs.declared.next.NextVotes.the-variants.{Votes, Nothing}
-use Rattle.legal.specs.Legal.{number, legal, numbers, kept, total}
+use Rattle.legal.specs.Legal.{number, legal, numbers, kept, total, votesOf}
 
 -- the legal numbers from n on
 unfoldable pub legalFrom : ℕ → List ℕ
@@ -21,7 +21,7 @@ firstFrom n = firstOr (legalFrom n)
 
 -- the bytes of a number, nothing from 2^24 up
 unfoldable pub votesAt : ℕ → NextVotes
-votesAt n = cond (ltb n total) (Votes (n / 65536) (n / 256 % 256) (n % 256)) Nothing
+votesAt n = cond (ltb n total) (votesOf n) Nothing
 
 -- where a position stands
 unfoldable pub positionOf : NextVotes → ℕ
