@@ -78,6 +78,9 @@ statusRuleLow = 23
 abbrev pub writtenValueLong : ℕ
 writtenValueLong = 24
 
+abbrev pub windowLengthOutside : ℕ
+windowLengthOutside = 33
+
 -- the archive
 abbrev pub recordMalformed : ℕ
 recordMalformed = 25
@@ -92,4 +95,4 @@ refusals =
     tooManyVotes ∷ repeatedVote ∷ contradictoryVote ∷ forkVoteBarred ∷ unknownParameter ∷ absentParameter ∷ entryDiffers ∷ blockVersionDiffers ∷
     votingLengthZero ∷ settingLarge ∷ votesCollectedAbsent ∷ blockVersionAbsent ∷
     outputShort ∷ inputLong ∷ statusRuleLow ∷ writtenValueLong ∷
-    recordMalformed ∷ heightUnexpected ∷ []
+    recordMalformed ∷ heightUnexpected ∷ windowLengthOutside ∷ []

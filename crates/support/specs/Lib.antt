@@ -1,0 +1,3 @@
+pub mod Support
+pub mod Window
+pub mod Kept
