@@ -1,3 +1,4 @@
 pub mod Reply
 pub mod Calls
 pub mod Replays
+pub mod Windows

@@ -1,7 +1,7 @@
 -- A window in cells: what its calls answer and leave, for every window and all cells. docs/RULES.md, "Support", "In cells".
 -- Assumes nothing.
 use Prim.Native.Nat.{ℕ, zero, suc, _+_, _*_, _%_}
-use mathlib.Core.Bool.{Bool, cond, _&&_}
+use mathlib.Core.Bool.{cond, _&&_}
 use mathlib.Core.List.{List, _++_}
 use lib.Dec.{ltb, leb, eqb}
 use lib.ListN.{length, drop, getD, set, replicate}
