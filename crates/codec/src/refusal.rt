@@ -53,13 +53,15 @@ pub const STATUS_RULE_LOW: u8 = 23;
 
 pub const WRITTEN_VALUE_LONG: u8 = 24;
 
+pub const WINDOW_LENGTH_OUTSIDE: u8 = 33;
+
 // The archive.
 pub const RECORD_MALFORMED: u8 = 25;
 
 pub const HEIGHT_UNEXPECTED: u8 = 26;
 
 // All of them, in order.
-pub fn refusals() -> [u8; 26]
+pub fn refusals() -> [u8; 27]
     ensures { λ r. ⌜ r ≡ refusals ⌝ }
 {
     [
@@ -89,5 +91,6 @@ pub fn refusals() -> [u8; 26]
         WRITTEN_VALUE_LONG,
         RECORD_MALFORMED,
         HEIGHT_UNEXPECTED,
+        WINDOW_LENGTH_OUTSIDE,
     ]
 }

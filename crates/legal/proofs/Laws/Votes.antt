@@ -3,7 +3,7 @@
 use mathlib.Core.Path.{_≡_, refl, sym, ap, _∙_}
 use mathlib.Core.Bool.{Bool, true, false, cond}
 use mathlib.Core.List.{List, [], _∷_, _++_, append-nil}
-use Prim.Native.Nat.{ℕ, _+_, _≤_}
+use Prim.Native.Nat.{ℕ, _≤_}
 use native.Mathlib.Omega.{arith}
 use lib.Dec.{eqb, ltb}
 use lib.IntN.{ℤ}
@@ -13,11 +13,7 @@ use Rattle.codec.specs.Signed.{signedOf}
 use Rattle.voting.specs.Common.{eqZ, count}
 use Rattle.voting.specs.Header.{votesIn, negation, ordinaryVote, fault, faultIn, checkVotes, checkHeaderVotes}
 use Rattle.voting.proofs.Laws.Header.{first-pass, first-zero}
-
-count-append : (p : ℤ → Bool) (xs ys : List ℤ) → count p (xs ++ ys) ≡ count p xs + count p ys
-unfolding count
-count-append p [] ys = omega arith
-count-append p (x ∷ xs) ys = omega (arith, count-append p xs ys)
+use Rattle.voting.proofs.Laws.Tally.{count-append}
 
 -- a test of counts that passes also passes with smaller ones
 fewer : (n m n′ m′ : ℕ) → n′ ≤ n → m′ ≤ m → cond (ltb 1 n) repeatedVote (cond (ltb 0 m) contradictoryVote 0) ≡ 0 → cond (ltb 1 n′) repeatedVote (cond (ltb 0 m′) contradictoryVote 0) ≡ 0

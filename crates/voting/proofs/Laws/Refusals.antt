@@ -29,33 +29,41 @@ use Rattle.voting.specs.declared.boundary.Boundary.{Boundary}
 abbrev pub Other : ℕ → Type 0
 Other n = eqb n entryDiffers ≡ false
 
-pub first-other : (n m : ℕ) → Other n → Other m → Other (first n m)
+-- of two refusals in order: what holds of both
+pub first-by : (P : ℕ → Type 0) (n m : ℕ) → P n → P m → P (first n m)
 unfolding first
-first-other zero m p q = q
-first-other (suc n) m p q = p
+first-by P zero m p q = q
+first-by P (suc n) m p q = p
 
--- headers: 9 to 11; 12, 18 and 19
-fault-other : (all : List ℤ) (v : ℤ) → Other (fault all v)
-unfolding fault
-fault-other all v = go (ltb 1 (count (eqZ v) all)) (ltb 0 (count (eqZ (negation v)) all))
-  where
-    go : (a b : Bool) → Other (cond a repeatedVote (cond b contradictoryVote 0))
-    go true b = refl
-    go false true = refl
-    go false false = refl
+pub first-other : (n m : ℕ) → Other n → Other m → Other (first n m)
+first-other = first-by Other
 
-faults-other : (all vs : List ℤ) → Other (faultIn all vs)
-unfolding faultIn
-faults-other all [] = refl
-faults-other all (v ∷ vs) = first-other (fault all v) (faultIn all vs) (fault-other all v) (faults-other all vs)
+-- the header check: what holds of 0 and of 9 to 11
+module _ (P : ℕ → Type 0) (none : P 0) (many : P tooManyVotes) (repeated : P repeatedVote) (contradictory : P contradictoryVote) where
+  fault-by : (all : List ℤ) (v : ℤ) → P (fault all v)
+  unfolding fault
+  fault-by all v = go (ltb 1 (count (eqZ v) all)) (ltb 0 (count (eqZ (negation v)) all))
+    where
+      go : (a b : Bool) → P (cond a repeatedVote (cond b contradictoryVote 0))
+      go true b = repeated
+      go false true = contradictory
+      go false false = none
+
+  faults-by : (all vs : List ℤ) → P (faultIn all vs)
+  unfolding faultIn
+  faults-by all [] = none
+  faults-by all (v ∷ vs) = first-by P (fault all v) (faultIn all vs) (fault-by all v) (faults-by all vs)
+
+  pub header-by : (bytes : List ℕ) → P (checkHeaderVotes bytes)
+  unfolding checkHeaderVotes checkVotes
+  header-by bytes = go (ltb 2 (count ordinaryVote (votesIn bytes)))
+    where
+      go : (a : Bool) → P (cond a tooManyVotes (faultIn (votesIn bytes) (votesIn bytes)))
+      go true = many
+      go false = faults-by (votesIn bytes) (votesIn bytes)
 
 pub header-other : (bytes : List ℕ) → Other (checkHeaderVotes bytes)
-unfolding checkHeaderVotes checkVotes
-header-other bytes = go (ltb 2 (count ordinaryVote (votesIn bytes)))
-  where
-    go : (a : Bool) → Other (cond a tooManyVotes (faultIn (votesIn bytes) (votesIn bytes)))
-    go true = refl
-    go false = faults-other (votesIn bytes) (votesIn bytes)
+header-other = header-by Other refl refl refl refl
 
 round-other : (g : VotingConfig) (height : ℕ) (start votes : Value) → Other (forkRefusal (checkRound g height start votes))
 unfolding checkRound forkRefusal

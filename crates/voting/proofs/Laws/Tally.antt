@@ -2,7 +2,7 @@
 -- Assumes nothing.
 use mathlib.Core.Path.{_≡_, refl, sym, ap, _∙_, subst}
 use mathlib.Core.Bool.{Bool, true, false, cond}
-use mathlib.Core.List.{List, [], _∷_}
+use mathlib.Core.List.{List, [], _∷_, _++_}
 use Prim.Native.Nat.{ℕ, zero, suc, _+_, _-_, _*_, _/_, _≤_, _<_}
 use native.Mathlib.Numerals.{add-one}
 use native.Mathlib.Omega.{arith}
@@ -34,6 +34,11 @@ count-most p (x ∷ xs) = let ih = count-most p xs in go (p x) ih
     go : (t : Bool) → count p xs ≤ length xs → cond t 1 0 + count p xs ≤ suc (length xs)
     go true h = omega arith
     go false h = omega arith
+
+pub count-append : {A : Type 0} (p : A → Bool) (xs ys : List A) → count p (xs ++ ys) ≡ count p xs + count p ys
+unfolding count
+count-append p [] ys = omega arith
+count-append p (x ∷ xs) ys = omega (arith, count-append p xs ys)
 
 -- from a position on
 module _ (p : ℕ → Bool) (s : List ℕ) (i : ℕ) where
@@ -155,7 +160,7 @@ once zero m h = refl
 once (suc zero) m h = refl
 once (suc (suc n)) m h = absurd (omega arith)
 
-votes-headers : (v : ℕ) → (v ≡ 0 → ⊥) → (bs : List ℕ) → AllLegal (headers bs) → count (eqb v) (whole bs) ≡ count (votesFor v) (headers bs)
+pub votes-headers : (v : ℕ) → (v ≡ 0 → ⊥) → (bs : List ℕ) → AllLegal (headers bs) → count (eqb v) (whole bs) ≡ count (votesFor v) (headers bs)
 unfolding headers whole count votesFor
 votes-headers v n [] l = refl
 votes-headers v n (a ∷ []) l = refl

@@ -1,0 +1,29 @@
+-- Support over a few headers, one of them refused, computed.
+-- Assumes nothing.
+use mathlib.Core.Path.{_≡_, refl}
+use mathlib.Core.List.{List, [], _∷_}
+use Prim.Native.Nat.{ℕ}
+use Rattle.codec.specs.Signed.{modulo, bitsOf, signedOf, wrapped}
+use Rattle.voting.specs.Common.{eqZ, count, first}
+use Rattle.voting.specs.Header.{votesIn, negation, ordinaryVote, fault, faultIn, checkVotes, checkHeaderVotes, votesFor}
+use Rattle.support.specs.Support.{accepted, support}
+
+-- the second repeats a vote
+abbrev four : List (List ℕ)
+four = (120 ∷ 0 ∷ 0 ∷ []) ∷ (1 ∷ 1 ∷ 0 ∷ []) ∷ (120 ∷ 1 ∷ 0 ∷ []) ∷ (1 ∷ 0 ∷ 2 ∷ []) ∷ []
+
+abbrev supports : ℕ → List ℕ
+supports n = support n four 0 ∷ support n four 1 ∷ support n four 2 ∷ support n four 120 ∷ []
+
+-- of 0, 1, 2 and 120: over the last, over the last two, and over all three that were accepted
+pub last-one : supports 1 ≡ 0 ∷ 1 ∷ 1 ∷ 0 ∷ []
+unfolding support accepted votesFor checkHeaderVotes checkVotes votesIn faultIn fault negation ordinaryVote count first eqZ signedOf wrapped bitsOf modulo
+last-one = refl
+
+pub last-two : supports 2 ≡ 0 ∷ 2 ∷ 1 ∷ 1 ∷ []
+unfolding support accepted votesFor checkHeaderVotes checkVotes votesIn faultIn fault negation ordinaryVote count first eqZ signedOf wrapped bitsOf modulo
+last-two = refl
+
+pub all-three : supports 4096 ≡ 0 ∷ 2 ∷ 1 ∷ 2 ∷ []
+unfolding support accepted votesFor checkHeaderVotes checkVotes votesIn faultIn fault negation ordinaryVote count first eqZ signedOf wrapped bitsOf modulo
+all-three = refl
