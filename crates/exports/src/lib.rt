@@ -8,4 +8,5 @@ pub mod replay;
 pub mod tables;
 pub mod update;
 pub mod votes;
+pub mod windows;
 pub mod writers;
