@@ -30,16 +30,16 @@ use Rattle.exports.specs.Windows.{windowNumber, windowAt, windowOr, wind
 abbrev Fits : Window → Type 0
 Fits w = (w .length < 2 ^ 16) × (w .held < 2 ^ 16) × (w .oldest < 2 ^ 16)
 
+same-window : (u w : Window) → u .length ≡ w .length → u .held ≡ w .held → u .oldest ≡ w .oldest → u ≡ w
+same-window u w l h o = ap (λ (n : ℕ). record { length = n; held = u .held; oldest = u .oldest }) l ∙ ap (λ (n : ℕ). record { length = w .length; held = n; oldest = u .oldest }) h ∙ ap (λ (n : ℕ). record { length = w .length; held = w .held; oldest = n }) o
+
 number-back : (w : Window) → Fits w → windowAt (windowNumber w) ≡ w
 unfolding windowAt windowNumber
 number-back w f =
     let length-low = f .0 in
     let held-low = f .1 in
     let oldest-low = f .2 in
-    let l : (w .length * 2 ^ 32 + w .held * 2 ^ 16 + w .oldest) / 2 ^ 32 % 2 ^ 16 ≡ w .length = omega arith in
-    let h : (w .length * 2 ^ 32 + w .held * 2 ^ 16 + w .oldest) / 2 ^ 16 % 2 ^ 16 ≡ w .held = omega arith in
-    let o : (w .length * 2 ^ 32 + w .held * 2 ^ 16 + w .oldest) % 2 ^ 16 ≡ w .oldest = omega arith in
-    rw (l, h, o)
+    same-window (windowAt (windowNumber w)) w (omega arith) (omega arith) (omega arith)
 
 number-low : (w : Window) → Fits w → windowNumber w < 2 ^ 63
 unfolding windowNumber

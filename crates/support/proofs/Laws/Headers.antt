@@ -21,7 +21,7 @@ use Rattle.support.proofs.Laws.Calls.{place-first, place-next, onward-i
 use Rattle.support.proofs.Laws.Ring.{turned-round, counted, Holds, holds-one, each-snoc}
 
 -- three bytes, one after another
-module _ (n q : ℕ) (cells : List ℕ) (x y z : ℕ) (bytes : List ℕ) (holds : Holds n q cells (x ∷ y ∷ z ∷ bytes)) (l : q + 2 < n) (m : n ≤ 12288) (a b c : ℕ) (la : a < 256) (lb : b < 256) (lc : c < 256) where
+module _ (n q : ℕ) (cells : List ℕ) (x y z : ℕ) (bytes : List ℕ) (holds : Holds n q cells (x ∷ y ∷ z ∷ bytes)) (l : q + 2 < n) (m : n < 65535) (a b c : ℕ) (la : a < 256) (lb : b < 256) (lc : c < 256) where
   first-in : Holds n (suc q) (replaced cells (256 + q) a) (y ∷ z ∷ (bytes ++ a ∷ []))
   first-in = holds-one n q cells x (y ∷ z ∷ bytes) holds (omega arith) m a la
 

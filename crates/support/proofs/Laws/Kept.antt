@@ -28,15 +28,15 @@ abbrev slid : List (List ℕ) → List (List ℕ) → List (List ℕ)
 slid hs vs = drop (length vs) (hs ++ vs)
 
 module _ (w : Window) (cells : List ℕ) (hs : List (List ℕ)) (sound : Sound w cells hs) (v : List ℕ) (header : IsHeader v) where
+  put-illegal : (checkHeaderVotes v ≡ 0 → ⊥) → checkHeaderVotes v ≡ putRefusal w (length cells) v
+  unfolding putRefusal
+  put-illegal e = first-was (checkHeaderVotes v) (roomRefusal w (length cells)) (checkHeaderVotes v) refl e
+
   put-legal : checkHeaderVotes v ≡ 0 → 0 ≡ putRefusal w (length cells) v
   unfolding putRefusal
   put-legal e =
       let r = sound .holds .room in
       first-is (checkHeaderVotes v) (roomRefusal w (length cells)) 0 0 (sym e) refl (room-fine w (length cells) (record { place = sound .place; most = sound .most; enough = r }))
-
-  put-illegal : (checkHeaderVotes v ≡ 0 → ⊥) → checkHeaderVotes v ≡ putRefusal w (length cells) v
-  unfolding putRefusal
-  put-illegal e = first-was (checkHeaderVotes v) (roomRefusal w (length cells)) (checkHeaderVotes v) refl e
 
   -- the two ways of a header: it enters, or it is refused
   by-put : (P : Left → Type 0)

@@ -48,7 +48,7 @@ pub record Holds (n q : ℕ) (cells bytes : List ℕ) : Type 0 where
   pub small : Each (λ b. b < 256) bytes
   pub supports : (id : ℕ) → id < 256 → getD cells id 0 ≡ counted bytes id
 
-module _ (n q : ℕ) (cells : List ℕ) (x : ℕ) (bytes : List ℕ) (holds : Holds n q cells (x ∷ bytes)) (l : q < n) (m : n ≤ 12288) (b : ℕ) (small-b : b < 256) where
+module _ (n q : ℕ) (cells : List ℕ) (x : ℕ) (bytes : List ℕ) (holds : Holds n q cells (x ∷ bytes)) (l : q < n) (m : n < 65535) (b : ℕ) (small-b : b < 256) where
   ring-length : length (take n (drop 256 cells)) ≡ n
   ring-length = let h = holds .room in length-take-le n (drop 256 cells) (rw (length-drop 256 cells) (omega arith))
 
