@@ -1,6 +1,6 @@
 """Compares what the C header, the Rust crate and the Python module declare with the library's source: of each function the name,
-the order and widths of the arguments and the width of the answer; the numbers of the refusals; the sizes that are promised. Prints
-what differs, and fails if something does.
+the order and widths of the arguments and the width of the answer; the numbers of the refusals; the sizes that are promised, and
+those of windows. Prints what differs, and fails if something does.
 
     python3 bindings/declarations.py
 """
@@ -18,6 +18,7 @@ C_TYPES = {
     "int16_t": "i16",
     "uint32_t": "u32",
     "int32_t": "i32",
+    "uint64_t": "u64",
     "int64_t": "i64",
     "size_t": "usize",
     "ergo_entry": "Entry",
@@ -60,8 +61,13 @@ def c_arguments(text: str) -> list[str]:
 
 
 def rust_refusals(text: str) -> dict[str, str]:
-    names = re.findall(r"^    \(?\s*(\w+)(?: \{ id: 0 \})?,\s*\"", text, re.MULTILINE)
-    return {re.sub(r"(?<!^)([A-Z])", r"_\1", name).upper(): str(number) for number, name in enumerate(names, 1)}
+    listed = re.findall(r"^    \(\s*(\d+),\s*(\w+)(?: \{ id: 0 \})?,\s*\"", text, re.MULTILINE)
+    return {re.sub(r"(?<!^)([A-Z])", r"_\1", name).upper(): number for number, name in listed}
+
+
+def constants(text: str, pattern: str) -> dict[str, str]:
+    """Numbers by name. Digits may have underscores between them."""
+    return {name: number.replace("_", "") for name, number in re.findall(pattern, text, re.MULTILINE)}
 
 
 def compare(what: str, expected: dict[str, str], declared: dict[str, str]) -> int:
@@ -79,8 +85,11 @@ def main() -> int:
     refusals = dict(re.findall(r"pub const (\w+): u8 = (\d+);", text_of("crates/codec/src/refusal.rt")))
     promised = re.findall(r"ensures size \{ λ r\. ⌜ length \((\w+)Bytes \w+\) ≡ (\d+) ⌝ \}", text_of("crates/wire/src/*.rt"))
     sizes = {f"{name.upper()}_SIZE": size for name, size in promised}
-    header_sizes = dict(re.findall(r"#define ERGO_(\w+_SIZE) (\d+)u", header))
-    module_sizes = dict(re.findall(r"^(\w+_SIZE) = (\d+)", module, re.MULTILINE))
+    in_source = constants(text_of("crates/support/src/window.rt"), r"^pub const (\w+): \w+ = (\d+);")
+    windows = {f"WINDOW_{name}": number for name, number in in_source.items()}
+    header_sizes = constants(header, r"^#define ERGO_(\w+) (\d+)u")
+    module_sizes = constants(module, r"^(\w+) = ([\d_]+)")
+    crate_windows = constants(text_of("bindings/rust/src/window.rs"), r"^(?:pub )?const (\w+): \w+ = ([\d_]+);")
     differ = [
         compare("functions in C", exported, c_functions(header)),
         compare("functions in Rust", exported, functions(text_of("bindings/rust/src/ffi.rs"), "fn")),
@@ -90,6 +99,9 @@ def main() -> int:
         compare("refusals in Python", refusals, dict(re.findall(r"^    ([A-Z_]+) = \(?\s*(\d+),", module, re.MULTILINE))),
         compare("sizes in C", sizes, {name: header_sizes.get(name) for name in sizes}),
         compare("sizes in Python", sizes, {name: module_sizes.get(name) for name in sizes}),
+        compare("windows in C", windows, {name: header_sizes.get(name) for name in windows}),
+        compare("windows in Rust", windows, crate_windows),
+        compare("windows in Python", windows, {name: module_sizes.get(name) for name in windows}),
     ]
     return 1 if any(differ) else 0
 

@@ -45,9 +45,26 @@ agree() {
     echo "the examples on $1: same"
 }
 
+# The chart of a stream, of a file or of standard input, ends as is expected.
+chart() {
+    local stream=$streams/$1.records of_file of_input
+    of_file=$(told python3 -B bindings/python/support.py "$stream" "${@:3}")
+    of_input=$(told python3 -B bindings/python/support.py - "${@:3}" < "$stream")
+    if [ "$of_file" != "$of_input" ] || [[ "$of_file" != *"$2" ]]; then
+        printf 'the chart of %s\n%s\n' "$1" "$(tail -n 4 <<< "$of_file")"
+        exit 1
+    fi
+    echo "the chart of $1: as expected"
+}
+
 agree empty $'exit 0'
 agree approved $'71680 2500000\nexit 0'
 agree r15_entry_differs $'refused by 15, id 8\nexit 1'
 agree r15_several_differ $'refused by 15, id 3\nexit 1'
 agree r25_cut_in_votes $'refused by 25\nexit 1'
 agree r26_height_again $'refused by 26\nexit 1'
+
+chart empty $'height,held,120\nexit 0'
+chart approved $'72703,4096,1004,0\nexit 0' 4096 120 -1
+chart r09_last_header $'4095,7,0\n4095: refused by 9\nexit 0' 7
+chart r25_cut_in_votes $'3071,1024,700\nrefused by 25\nexit 1'

@@ -10,7 +10,8 @@
    shorter or longer: a byte past its end counts as 0, and bytes after its size are not looked at.
 
    A call that is refused changes no cell that was lent to it. One that is not refused writes from the start of `out`
-   and changes no cell after what it writes. Where `out` is shorter than that, the answer is 21. */
+   and changes no cell after what it writes. Where `out` is shorter than that, the answer is 21. The cells of a
+   window are read and written: no cell after them is changed, and where they are too few, the answer is 21. */
 #ifndef ERGO_VOTING_H
 #define ERGO_VOTING_H
 
@@ -59,6 +60,7 @@ enum ergo_refusal {
                                          status */
     ERGO_STATUS_RULE_LOW = 23,        /* a status with a rule id under 1,000 is to be written */
     ERGO_WRITTEN_VALUE_LONG = 24,     /* a value over 64 bytes is to be written */
+    ERGO_WINDOW_LENGTH_OUTSIDE = 33,  /* a window for support is to span no header, or more than 4,096 */
     /* The archive. */
     ERGO_RECORD_MALFORMED = 25,       /* a record is malformed */
     ERGO_HEIGHT_UNEXPECTED = 26       /* a height is not the expected one, or past the last one allowed */
@@ -146,6 +148,12 @@ enum ergo_refusal {
 #define ERGO_RECORD_VOTES_AT 12u
 #define ERGO_RECORD_END_AT 16u
 
+/* A window spans so many headers at most. Its cells, of 16 bits each: the support of each byte, and three for each
+   header that it spans. */
+#define ERGO_WINDOW_LENGTH_MOST 4096u
+#define ERGO_WINDOW_SUPPORTS 256u
+#define ERGO_WINDOW_CELLS(length) (ERGO_WINDOW_SUPPORTS + 3u * (length))
+
 /* The most bytes of what has no fixed size. */
 #define ERGO_PARAMETERS_SIZE_MOST 1280u       /* parameters: an id and a number, 5 bytes, for each of 256 ids */
 #define ERGO_PARAMETER_FIELDS_SIZE_MOST 1785u /* parameters as fields: 7 bytes for each id but 124 */
@@ -211,6 +219,20 @@ uint8_t ergo_tally_votes_seeded(uint32_t first_height, const uint8_t *votes, siz
 /* Whether a header may vote for the fork at a height: 18, 19, 12. */
 uint8_t ergo_check_fork_vote(const uint8_t *settings, size_t settings_len, uint32_t height, const uint8_t *votes,
                              size_t votes_len, const uint8_t *table, size_t table_len);
+
+/* Support at every height: how many of the last headers vote for each id. A window is a number and the cells that go
+   with it. The caller keeps both, and hands them to each call as the call before left them. */
+
+/* A window that spans so many headers and holds none: the window, all its ERGO_WINDOW_CELLS(length) cells being 0; or
+   minus 33, 21. */
+int64_t ergo_window_new(uint32_t length, uint16_t *cells, size_t cells_len);
+
+/* Puts the three votes of a header into a window: the window after it; or minus 9, 10, 11, 21. The oldest header leaves
+   where the window held as many as it spans. cells[b] is then the support of the byte b, from 0 to 255: how many of the
+   headers that are held have b among their votes. cells[0] is 0, and the cells from ERGO_WINDOW_SUPPORTS on are the
+   window's own. Where the answer is negative, nothing entered: a caller keeps the old number. A number that is no
+   window, as 0 is, is 21. */
+int64_t ergo_window_put(uint64_t window, uint16_t *cells, size_t cells_len, const uint8_t *votes, size_t votes_len);
 
 /* The boundary, and what is checked against the table that it computes. */
 
@@ -419,6 +441,21 @@ static inline size_t ergo_tally_entries(const uint8_t tally[ERGO_TALLY_SIZE], er
         }
     }
     return count;
+}
+
+/* How many headers a window spans. */
+static inline uint16_t ergo_window_length(uint64_t window) {
+    return (uint16_t)(window >> 32);
+}
+
+/* How many headers a window holds: those that support is counted over. */
+static inline uint16_t ergo_window_held(uint64_t window) {
+    return (uint16_t)(window >> 16);
+}
+
+/* The support of an id in the cells of a window. */
+static inline uint16_t ergo_window_support(const uint16_t *cells, int8_t id) {
+    return cells[(uint8_t)id];
 }
 
 #ifdef __cplusplus

@@ -1,5 +1,5 @@
 /* The helpers of the header, and the library from C: NULL for a length of 0, outputs that are too short, every legal
-   header, a boundary. */
+   header, a window, a boundary. */
 #undef NDEBUG
 #include <assert.h>
 #include <stdio.h>
@@ -7,14 +7,16 @@
 #include "ergo_voting.h"
 
 #define UNTOUCHED 0xeeu
+#define CELLS ERGO_WINDOW_CELLS(2u) /* of a window of two headers */
 
 static uint8_t table[ERGO_TABLE_SIZE];
 static uint8_t settings[ERGO_SETTINGS_SIZE];
 
-/* Whether cells are as they were filled. */
-static bool untouched(const uint8_t *cells, size_t count) {
-    for (size_t i = 0; i < count; i++) {
-        if (cells[i] != UNTOUCHED) {
+/* Whether cells of so many bytes are as they were filled. */
+static bool untouched(const void *cells, size_t size) {
+    const uint8_t *bytes = cells;
+    for (size_t i = 0; i < size; i++) {
+        if (bytes[i] != UNTOUCHED) {
             return false;
         }
     }
@@ -70,6 +72,60 @@ static void legal_headers(void) {
     assert(untouched(cells, sizeof cells));
 }
 
+/* Puts three votes into a window, which stays as it was where they are refused: the answer. */
+static int64_t put(uint64_t *window, uint16_t *cells, size_t cells_len, uint8_t a, uint8_t b, uint8_t c) {
+    const uint8_t votes[] = {a, b, c};
+    int64_t answer = ergo_window_put(*window, cells, cells_len, votes, sizeof votes);
+    if (answer >= 0) {
+        *window = (uint64_t)answer;
+    }
+    return answer;
+}
+
+/* Whether the supports of 120, 1 and -1 are so many, and no other byte has any. */
+static bool supported(const uint16_t *cells, uint16_t fork, uint16_t more, uint16_t less) {
+    uint32_t all = 0;
+    for (size_t byte = 0; byte < ERGO_WINDOW_SUPPORTS; byte++) {
+        all += cells[byte];
+    }
+    return ergo_window_support(cells, 120) == fork && ergo_window_support(cells, 1) == more &&
+           ergo_window_support(cells, -1) == less && all == (uint32_t)fork + more + less;
+}
+
+/* A window of two headers, and a cell behind it. */
+static void windows(void) {
+    uint16_t cells[CELLS + 1], before[CELLS + 1];
+    uint64_t window;
+    memset(cells, UNTOUCHED, sizeof cells);
+    window = (uint64_t)ergo_window_new(2, cells, CELLS + 1);
+    assert(ergo_window_length(window) == 2 && ergo_window_held(window) == 0 && supported(cells, 0, 0, 0));
+    assert(put(&window, cells, CELLS, 120, 0, 1) > 0 && ergo_window_held(window) == 1 && supported(cells, 1, 1, 0));
+    assert(put(&window, cells, CELLS, 255, 120, 0) > 0 && ergo_window_held(window) == 2 && supported(cells, 2, 1, 1));
+    memcpy(before, cells, sizeof cells);
+    assert(put(&window, cells, CELLS, 1, 2, 3) == -ERGO_TOO_MANY_VOTES);
+    assert(put(&window, cells, CELLS, 1, 1, 0) == -ERGO_REPEATED_VOTE);
+    assert(put(&window, cells, CELLS, 1, 255, 0) == -ERGO_CONTRADICTORY_VOTE);
+    assert(put(&window, cells, CELLS - 1, 0, 0, 0) == -ERGO_OUTPUT_SHORT);
+    assert(ergo_window_held(window) == 2 && memcmp(before, cells, sizeof cells) == 0);
+    assert(put(&window, cells, CELLS, 0, 0, 0) > 0 && ergo_window_held(window) == 2 && supported(cells, 1, 0, 1));
+    assert(put(&window, cells, CELLS + 1, 1, 0, 0) > 0 && supported(cells, 0, 1, 0));
+    assert(ergo_window_length(window) == 2 && untouched(cells + CELLS, sizeof cells[0]));
+}
+
+static void windows_that_are_refused(void) {
+    uint16_t cells[CELLS];
+    uint64_t window = 0;
+    memset(cells, UNTOUCHED, sizeof cells);
+    assert(ergo_window_new(0, NULL, 0) == -ERGO_WINDOW_LENGTH_OUTSIDE);
+    assert(ergo_window_new(ERGO_WINDOW_LENGTH_MOST, NULL, 0) == -ERGO_OUTPUT_SHORT);
+    assert(ergo_window_new(ERGO_WINDOW_LENGTH_MOST + 1, NULL, 0) == -ERGO_WINDOW_LENGTH_OUTSIDE);
+    assert(ergo_window_new(0, cells, CELLS) == -ERGO_WINDOW_LENGTH_OUTSIDE);
+    assert(ergo_window_new(2, cells, CELLS - 1) == -ERGO_OUTPUT_SHORT);
+    assert(put(&window, cells, CELLS, 120, 0, 0) == -ERGO_OUTPUT_SHORT); /* 0 is no window */
+    assert(put(&window, cells, CELLS, 1, 1, 0) == -ERGO_REPEATED_VOTE);
+    assert(untouched(cells, sizeof cells));
+}
+
 static void boundary(void) {
     const ergo_entry tally[] = {{1, 513}, {-2, 513}, {3, 512}};
     uint8_t question[ERGO_QUESTION_SIZE], out[ERGO_COMPUTED_SIZE];
@@ -105,6 +161,8 @@ static void nothing_lent(void) {
     assert(ergo_check_header_votes(NULL, 0) == 0 && ergo_check_headers(NULL, 0) == 0);
     assert(ergo_next_legal_votes(NULL, 0, NULL, 0) == -ERGO_OUTPUT_SHORT);
     assert(ergo_tally_votes_seeded(0, NULL, 0, 0, 0, NULL, 0) == ERGO_OUTPUT_SHORT);
+    assert(ergo_window_new(1, NULL, 0) == -ERGO_OUTPUT_SHORT);
+    assert(ergo_window_put(0, NULL, 0, NULL, 0) == -ERGO_OUTPUT_SHORT);
     assert(ergo_check_fork_vote(NULL, 0, 0, NULL, 0, NULL, 0) == 0);
     assert(ergo_compute_boundary_parameters(NULL, 0, NULL, 0, NULL, 0, NULL, 0) == ERGO_VOTING_LENGTH_ZERO);
     assert(ergo_check_block_version(NULL, 0, 1) == ERGO_BLOCK_VERSION_ABSENT);
@@ -149,6 +207,8 @@ int main(void) {
     tables();
     tallies();
     legal_headers();
+    windows();
+    windows_that_are_refused();
     boundary();
     states();
     answers();

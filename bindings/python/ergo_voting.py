@@ -14,6 +14,7 @@ import enum
 import os
 import re
 import struct
+from array import array
 from collections.abc import Iterable, Iterator, Mapping, Sequence
 from dataclasses import dataclass
 from pathlib import Path
@@ -37,6 +38,9 @@ RECORD_SIZE = 20
 LINE_SIZE = 47  # no line is longer
 PARAMETERS_SIZE_MOST = 1_280
 FIELD_VALUE_SIZE_MOST = 64
+
+WINDOW_LENGTH_MOST = 4_096  # the most headers that a window spans
+WINDOW_SUPPORTS = 256  # its cells for the supports, one for each byte; behind them stand three for each header
 
 
 # Refusals.
@@ -83,6 +87,7 @@ class Refusal(enum.IntEnum):
     WRITTEN_VALUE_LONG = 24, "a value over 64 bytes is to be written"
     RECORD_MALFORMED = 25, "a record is malformed"
     HEIGHT_UNEXPECTED = 26, "a height is not the expected one, or past the last one allowed"
+    WINDOW_LENGTH_OUTSIDE = 33, "a window for support is to span no header, or more than 4,096"
 
 
 class Refused(Exception):
@@ -119,6 +124,8 @@ SIGNATURES = """
     ergo_next_legal_votes(votes: &[u8], out: &mut [u8]) -> i64
     ergo_tally_votes_seeded(first_height: u32, votes: &[u8], boundary_height: u32, voting_length: u32, out: &mut [u8]) -> u8
     ergo_check_fork_vote(settings: &[u8], height: u32, votes: &[u8], table: &[u8]) -> u8
+    ergo_window_new(length: u32, cells: &mut [u16]) -> i64
+    ergo_window_put(window: u64, cells: &mut [u16], votes: &[u8]) -> i64
     ergo_compute_boundary_parameters(tally: &[Entry], proposed_update: &[u8], question: &[u8], out: &mut [u8]) -> u8
     ergo_check_parameters_v6(table: &[u8], parameters: &[u8]) -> u16
     ergo_check_block_version(table: &[u8], version: u8) -> u8
@@ -151,6 +158,7 @@ _NUMBERS = {
     "i16": ctypes.c_int16,
     "u32": ctypes.c_uint32,
     "i32": ctypes.c_int32,
+    "u64": ctypes.c_uint64,
     "i64": ctypes.c_int64,
     "usize": ctypes.c_size_t,
 }
@@ -161,6 +169,7 @@ class _Entry(ctypes.Structure):
 
 
 assert ctypes.sizeof(_Entry) == 8 and _Entry.count.offset == 4
+assert array("H").itemsize == 2
 
 
 def _parsed(signatures: str) -> dict[str, tuple[list[str], str]]:
@@ -195,8 +204,8 @@ def _c_types(kind: str) -> list[type]:
 
 
 def call(name: str, *arguments: object) -> int:
-    """A function of the library as it is: bytes for &[u8], a bytearray for &mut [u8], lists of numbers or of entries for the
-    other slices. bindings/c/ergo_voting.h says what each function does."""
+    """A function of the library as it is: bytes for &[u8], a bytearray for &mut [u8], an array("H") for &mut [u16], lists of
+    numbers or of entries for the other slices. bindings/c/ergo_voting.h says what each function does."""
     if _library is None:
         load()
     kinds, _ = _KINDS[name]
@@ -205,8 +214,8 @@ def call(name: str, *arguments: object) -> int:
 
 
 def _given(kind: str, argument) -> tuple:
-    if kind == "&mut [u8]":
-        return (ctypes.c_uint8 * len(argument)).from_buffer(argument), len(argument)
+    if kind.startswith("&mut "):
+        return (_NUMBERS[kind[6:-1]] * len(argument)).from_buffer(argument), len(argument)
     if kind == "&[u8]":
         return ctypes.c_char_p(bytes(argument)), len(argument)
     if kind == "&[Entry]":
@@ -242,7 +251,7 @@ def _accept(answer: int) -> None:
 
 
 def _size(answer: int) -> int:
-    """An answer that is a size, or minus a refusal's number."""
+    """An answer that is a size or a window, or minus a refusal's number."""
     if answer < 0:
         raise Refused(-answer)
     return answer
@@ -430,6 +439,42 @@ def tally_votes_seeded(first_height: int, votes: bytes, boundary_height: int, vo
 def check_fork_vote(settings: Settings, height: int, votes: bytes, table: Table) -> None:
     """Whether a header may vote for the fork at a height, by the table that rules its epoch: 18, 19, 12."""
     _accept(call("ergo_check_fork_vote", settings.to_bytes(), height, _exactly(3, votes), table.to_bytes()))
+
+
+# Support at every height.
+
+
+class Window:
+    """A window over the last headers, and the support of each id: how many of them vote for it."""
+
+    def __init__(self, length: int) -> None:
+        """A window that spans so many headers, 1 to 4,096, and holds none: 33."""
+        places = min(_in_width("u32", length), WINDOW_LENGTH_MOST)
+        self._cells = array("H", [0] * (WINDOW_SUPPORTS + 3 * places))
+        self._window = _size(call("ergo_window_new", length, self._cells))
+
+    def put(self, votes: bytes) -> None:
+        """Puts the three votes of a header: 9, 10, 11. The oldest header leaves where the window held as many as it spans.
+        Refused, the window is as it was."""
+        self._window = _size(call("ergo_window_put", self._window, self._cells, _exactly(3, votes)))
+
+    @property
+    def length(self) -> int:
+        """How many headers it spans."""
+        return self._window >> 32
+
+    @property
+    def held(self) -> int:
+        """How many headers it holds: those that support is counted over."""
+        return self._window >> 16 & 0xFFFF
+
+    def support(self, id: int) -> int:
+        """How many of them vote for an id."""
+        return self._cells[_in_width("i8", id) % 256]
+
+    def supports(self) -> dict[int, int]:
+        """The support of each id that has any, in the order of the signed ids."""
+        return {id: count for id in range(-128, 128) if (count := self.support(id))}
 
 
 # Extension bodies.

@@ -1,7 +1,12 @@
 """The tests of bindings/rust/tests, from Python."""
 
+import contextlib
+import io
+import random
 import unittest
+from array import array
 from dataclasses import replace
+from itertools import accumulate
 from pathlib import Path
 
 from ergo_voting import (
@@ -19,6 +24,7 @@ from ergo_voting import (
     Table,
     Tally,
     Update,
+    Window,
     call,
     check_block_version,
     check_body,
@@ -50,6 +56,7 @@ from ergo_voting import (
     status_at,
     tally_votes_seeded,
 )
+from support import chart
 
 ROOT = Path(__file__).resolve().parents[2]
 QUIET = (ROOT / "crates/replay/stdin").read_bytes()  # one epoch without votes, at 1,024
@@ -156,6 +163,94 @@ class Votes(Case):
         self.assertEqual(limits(-9), limits(9))
         for id in (0, 10, -128, 120):
             self.assertEqual(limits(id), (None,) * 3)
+
+
+class Support(Case):
+    def test_support_is_what_a_recount_gives(self):
+        for length in (1, 2, 3, 10):
+            window, entered, refusals, draw = Window(length), [], set(), random.Random(length)
+            for _ in range(500):
+                votes = bytes(draw.choices((0, 0, 1, 255, 2, 120, 120, 128), k=3))
+                try:
+                    window.put(votes)
+                    entered.append(votes)
+                except Refused as refused:
+                    self.refused(refused.number, check_header_votes, votes)
+                    refusals.add(refused.number)
+                last = entered[-length:]
+                self.assertEqual((window.length, window.held), (length, len(last)))
+                self.assertEqual(window.supports(), recount(last))
+            self.assertGreater(len(entered), 3 * length)
+            self.assertEqual(refusals, {9, 10, 11})
+
+    def test_lengths_of_windows(self):
+        for length in (1, 4_096):
+            window = Window(length)
+            self.assertEqual((window.length, window.held, window.supports()), (length, 0, {}))
+        for length in (0, 4_097, 2**32 - 1):
+            self.refused(Refusal.WINDOW_LENGTH_OUTSIDE, Window, length)
+        for length in (-1, 2**32):
+            self.assertRaises(OverflowError, Window, length)
+
+    def test_the_longest_window(self):
+        window = Window(4_096)
+        for _ in range(2 * 4_096):
+            window.put(FORK)
+        self.assertEqual((window.held, window.supports()), (4_096, {120: 4_096}))
+        window.put(bytes((0xFF, 0, 0)))
+        self.assertEqual([window.support(id) for id in (120, -1, 1, 0)], [4_095, 1, 0, 0])
+        self.assertRaises(OverflowError, window.support, 255)
+
+    def test_a_refused_header_leaves_the_window(self):
+        window = Window(2)
+        window.put(bytes((1, 0, 120)))
+        self.refused(Refusal.TOO_MANY_VOTES, window.put, bytes((1, 2, 3)))
+        self.refused(Refusal.REPEATED_VOTE, window.put, bytes((1, 1, 0)))
+        self.refused(Refusal.CONTRADICTORY_VOTE, window.put, bytes((1, 255, 0)))
+        self.assertRaises(ValueError, window.put, bytes(2))
+        self.assertEqual((window.held, window.supports()), (1, {1: 1, 120: 1}))
+
+    def test_a_chart(self):
+        ids = [120, 1, -2, -1]
+        stream = (STREAMS / "approved.records").read_bytes()
+        for length in (1_024, 7):
+            with contextlib.redirect_stdout(io.StringIO()) as out:
+                chart(io.BytesIO(stream), length, ids)
+            expected = ["height,held,120,1,-2,-1", *recounted(stream, length, ids)]
+            for line, expected_line in zip(out.getvalue().splitlines(), expected, strict=True):
+                self.assertEqual(line, expected_line)
+
+    def test_a_chart_goes_on_after_a_refused_header(self):
+        votes = FORK + bytes((1, 1, 0)) + FORK
+        stream = QUIET[:-MAINNET_VOTES_SIZE] + votes + QUIET[-MAINNET_VOTES_SIZE + len(votes) :]
+        with contextlib.redirect_stdout(io.StringIO()) as out, contextlib.redirect_stderr(io.StringIO()) as said:
+            chart(io.BytesIO(stream), 2, [120])
+        lines = out.getvalue().splitlines()
+        self.assertEqual(lines[:5], ["height,held,120", "1024,1,1", "1025,1,1", "1026,2,2", "1027,2,1"])
+        self.assertEqual((len(lines), lines[-1], said.getvalue()), (1_025, "2047,2,0", "1025: refused by 10\n"))
+
+
+def recount(last):
+    """How many of the last headers have each id among their votes, where any has."""
+    counts = {id: sum(id % 256 in votes for votes in last) for id in range(-128, 128) if id != 0}
+    return {id: count for id, count in counts.items() if count > 0}
+
+
+def recounted(stream, length, ids):
+    """The lines of a chart after the first, all headers being legal. It asks nothing of the library: a record's body begins at 10,
+    and its votes 3 bytes after that ends. Support is a difference of two sums."""
+    heights, headers = [], []
+    while stream:
+        votes_at = 13 + int.from_bytes(stream[8:10], "big")
+        end = votes_at + MAINNET_VOTES_SIZE
+        height = int.from_bytes(stream[3:7], "big")
+        heights += range(height, height + 1_024)
+        headers += (stream[at : at + 3] for at in range(votes_at, end, 3))
+        stream = stream[end:]
+    sums = [[0, *accumulate(id % 256 in votes for votes in headers)] for id in ids]
+    for count, height in enumerate(heights, 1):
+        held = min(count, length)
+        yield ",".join(map(str, (height, held, *(sum[count] - sum[count - held] for sum in sums))))
 
 
 class Boundary(Case):
@@ -479,6 +574,30 @@ class Lent(Case):
         self.assertEqual(call("ergo_next_legal_votes", bytes((1,)), cells), 3)  # a byte past the end counts as 0
         self.assertEqual(cells, bytes((1, 0, 2, 0xEE)))
 
+    def test_a_window_in_cells(self):
+        size = 256 + 3 * 2
+        cells = array("H", [0xEEEE] * (size + 1))
+        for length in (0, 4_097, 2**32 - 1):
+            self.assertEqual(call("ergo_window_new", length, cells), -33)
+        self.assertEqual(call("ergo_window_new", 0, array("H")), -33)  # 33 comes before 21
+        short = cells[: size - 1]
+        self.assertEqual(call("ergo_window_new", 2, short), -21)
+        self.assertEqual({*cells, *short}, {0xEEEE})
+        window = call("ergo_window_new", 2, cells)
+        self.assertEqual((window, {*cells[:size]}, cells[size]), (2 << 32, {0}, 0xEEEE))
+        window = call("ergo_window_put", window, cells, bytes((120,)))  # a byte past the end counts as 0
+        self.assertEqual((window, cells[0], cells[120]), ((2 << 32) + (1 << 16) + 1, 0, 1))
+        before, short = cells[:], cells[: size - 1]
+        self.assertEqual(call("ergo_window_put", window, short, FORK), -21)
+        self.assertEqual(call("ergo_window_put", window, array("H"), bytes((1, 1, 0))), -10)  # 10 comes before 21
+        for number, votes in {9: (1, 2, 3), 10: (120, 120, 0), 11: (1, 0, 255)}.items():
+            self.assertEqual(call("ergo_window_put", window, cells, bytes(votes)), -number)
+        for no_window in (0, 2, 1 << 16, (2 << 32) + 2, 4_097 << 32, 0xFFFF << 32):
+            self.assertEqual(call("ergo_window_put", no_window, cells, FORK), -21)
+        self.assertEqual((cells, short), (before, before[: size - 1]))
+        window = call("ergo_window_put", window | 0xFFFF << 48, cells, bytes(3))  # bits above 48 are not looked at
+        self.assertEqual((window, cells[size]), ((2 << 32) + (2 << 16), 0xEEEE))
+
     def test_a_state_that_is_too_short(self):
         short = bytearray(State.open(1_024, MAINNET).to_bytes()[:94])
         before = bytes(short)
@@ -504,7 +623,7 @@ class Lent(Case):
         self.assertRaises(OverflowError, MAINNET_SETTINGS.soft_fork_approved, 2**31)
 
     def test_refusals(self):
-        self.assertEqual([int(refusal) for refusal in Refusal], list(range(1, 27)))
+        self.assertEqual([int(refusal) for refusal in Refusal], [*range(1, 27), 33])
         self.assertEqual(str(Refused(1)), "refused by 1: a body has fewer than 32 bytes")
         self.assertEqual(str(Refused(15, 3)), "refused by 15: a computed entry is missing or different in the extension: id 3")
 

@@ -48,6 +48,9 @@ library! {
     fn ergo_tally_votes_seeded(first_height: u32, votes: &[u8], boundary_height: u32, voting_length: u32, out: &mut [u8]) -> u8;
     fn ergo_check_fork_vote(settings: &[u8], height: u32, votes: &[u8], table: &[u8]) -> u8;
 
+    fn ergo_window_new(length: u32, cells: &mut [u16]) -> i64;
+    fn ergo_window_put(window: u64, cells: &mut [u16], votes: &[u8]) -> i64;
+
     fn ergo_compute_boundary_parameters(tally: &[Entry], proposed_update: &[u8], question: &[u8], out: &mut [u8]) -> u8;
     fn ergo_check_parameters_v6(table: &[u8], parameters: &[u8]) -> u16;
     fn ergo_check_block_version(table: &[u8], version: u8) -> u8;

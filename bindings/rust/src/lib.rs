@@ -29,6 +29,7 @@ mod table;
 mod tally;
 mod update;
 mod votes;
+mod window;
 mod writers;
 
 pub use body::{
@@ -51,6 +52,7 @@ pub use update::{
     parse_validation_settings_update, rule_at, rule_may_not_be_disabled, status_at, RulePlace, Status, StatusPlace, Update,
 };
 pub use votes::{check_fork_vote, check_header_votes, check_headers, legal_votes, next_legal_votes};
+pub use window::{Window, WINDOW_LENGTH_MOST};
 pub use writers::{
     encode_disabled_rules, encode_disabled_rules_into, encode_validation_settings_update, encode_validation_settings_update_into,
     pack_extension_bytes, pack_extension_bytes_into, pack_parameters_to_kv, pack_parameters_to_kv_into,

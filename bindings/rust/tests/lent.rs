@@ -75,6 +75,44 @@ fn the_next_legal_header_into_cells() {
 }
 
 #[test]
+fn a_window_in_cells() {
+    let mut cells = [0xeeee; 256 + 3 * 2 + 1];
+    let all = cells.len() - 1;
+    assert_eq!([0, 4_097, u32::MAX].map(|length| ergo_window_new(length, &mut cells)), [-33; 3]);
+    assert_eq!(ergo_window_new(0, &mut []), -33, "33 comes before 21");
+    assert_eq!(ergo_window_new(2, &mut cells[..all - 1]), -21);
+    assert_eq!(cells, [0xeeee; 256 + 3 * 2 + 1]);
+    let window = ergo_window_new(2, &mut cells);
+    assert_eq!(window, 2 << 32);
+    assert_eq!((&cells[..all], cells[all]), (&[0; 256 + 3 * 2][..], 0xeeee));
+    let window = ergo_window_put(window as u64, &mut cells[..all], &[120]);
+    assert_eq!(window, (2 << 32) + (1 << 16) + 1, "a byte past the end counts as 0");
+    assert_eq!((cells[0], cells[120], cells[all]), (0, 1, 0xeeee));
+    let window = ergo_window_put(window as u64, &mut cells, &[0, 255, 120, 9]);
+    assert_eq!(window, (2 << 32) + (2 << 16), "a byte after the votes is not looked at");
+    assert_eq!((cells[0], cells[9], cells[120], cells[255], cells[all]), (0, 0, 2, 1, 0xeeee));
+}
+
+#[test]
+fn a_header_that_is_refused_changes_no_cell() {
+    let mut cells = [0; 256 + 3 * 2];
+    let all = cells.len();
+    let empty = ergo_window_new(2, &mut cells) as u64;
+    let window = ergo_window_put(empty, &mut cells, &[1, 0, 120]) as u64;
+    let before = cells;
+    assert_eq!(ergo_window_put(window, &mut cells, &[1, 2, 3]), -9);
+    assert_eq!(ergo_window_put(window, &mut cells, &[120, 120, 0]), -10);
+    assert_eq!(ergo_window_put(window, &mut cells, &[1, 0, 255]), -11);
+    assert_eq!(ergo_window_put(window, &mut cells[..all - 1], &[120, 0, 0]), -21);
+    assert_eq!(ergo_window_put(window, &mut [], &[1, 1, 0]), -10, "10 comes before 21");
+    let no_windows = [0, 2, 1 << 16, (2 << 32) + 2, 4_097 << 32, 0xffff << 32];
+    assert_eq!(no_windows.map(|number| ergo_window_put(number, &mut cells, &[120, 0, 0])), [-21; 6]);
+    assert_eq!(cells, before);
+    let high = 0xffff << 48;
+    assert_eq!(ergo_window_put(window | high, &mut cells, &[0; 3]), (2 << 32) + (2 << 16), "bits above 48 are not looked at");
+}
+
+#[test]
 fn a_state_that_is_too_short() {
     let table = Table::default_parameters(Network::Mainnet).to_bytes();
     let mut state = [0; 95];
@@ -124,6 +162,7 @@ fn numbers_of_refusals() {
     assert_eq!(Refusal::BodyShort.number(), 1);
     assert_eq!(Refusal::EntryDiffers { id: 3 }.number(), 15);
     assert_eq!(Refusal::HeightUnexpected.number(), 26);
+    assert_eq!(Refusal::WindowLengthOutside.number(), 33);
     assert_eq!(Refusal::BodyShort.to_string(), "a body has fewer than 32 bytes");
     assert_eq!(Refusal::EntryDiffers { id: 3 }.to_string(), "a computed entry is missing or different in the extension: id 3");
 }
