@@ -2,9 +2,12 @@
 use codec::refusal;
 use voting::header;
 ghost use mathlib.Core.Path.{_≡_};
+ghost use mathlib.Core.Bool.{cond, _&&_};
 ghost use mathlib.Core.List.{_++_};
-ghost use Prim.Native.Nat.{_+_, _*_, _≤_, _<_};
-ghost use lib.ListN.{length, drop, replicate};
+ghost use Prim.Native.Nat.{_+_, _%_, _≤_, _<_};
+ghost use lib.Dec.{eqb};
+ghost use lib.ListN.{length, drop, getD, replicate};
+ghost use Rattle.voting.specs.Header.{checkHeaderVotes};
 ghost use Rattle.support.specs.Window.{cellOf, left, roomRefusal, empty, newRefusal, newOf, added, replaced, entered, moreHeld, placeAfter, onward, putRefusal, putOf};
 ghost use Rattle.support.specs.Kept.{SupportKept};
 
@@ -84,11 +87,30 @@ fn new_refusal(length: u32, room: usize) -> u8
 fn put_refusal(w: Window, room: usize, votes: [u8; 3]) -> u8
     ensures { λ r. ⌜ r ≡ putRefusal w room votes ⌝ }
 {
-    let e = header::check_header_votes(votes);
+    let e = header_refusal(votes);
     if e != 0 {
         return e;
     }
     room_refusal(w, room)
+}
+
+// The header check. Most headers have no votes, and most of the others are legal, which a test without branches tells.
+fn header_refusal(votes: [u8; 3]) -> u8
+    ensures { λ r. ⌜ r ≡ checkHeaderVotes votes ⌝ }
+{
+    if no_votes(votes) {
+        return 0;
+    }
+    if header::is_illegal(votes[0], votes[1], votes[2]) {
+        return header::check_header_votes(votes);
+    }
+    0
+}
+
+fn no_votes(votes: [u8; 3]) -> bool
+    ensures { λ r. ⌜ r ≡ (eqb (getD votes 0 0) 0 && eqb (getD votes 1 0) 0 && eqb (getD votes 2 0) 0) ⌝ }
+{
+    (votes[0] == 0) & (votes[1] == 0) & (votes[2] == 0)
 }
 
 // 21 unless it is a window, and the cells hold it.
@@ -135,9 +157,20 @@ fn enter(cells: &mut [u16], at: usize, votes: [u8; 3])
     requires { ⌜ (256 ≤ at) × (at + 2 < length (now cells)) ⌝ }
     ensures { λ r. ⌜ now (cells .exit) ≡ entered (now (cells .entry)) at votes ⌝ }
 {
+    if no_votes(votes) & no_bytes(cells, at) {
+        return;
+    }
     replace(cells, at, votes[0]);
     replace(cells, at + 1, votes[1]);
     replace(cells, at + 2, votes[2]);
+}
+
+// Whether three cells are 0.
+fn no_bytes(cells: &[u16], at: usize) -> bool
+    requires { ⌜ at + 2 < length (now cells) ⌝ }
+    ensures { λ r. ⌜ r ≡ (eqb (getD (now (cells .entry)) at 0) 0 && eqb (getD (now (cells .entry)) (at + 1) 0) 0 && eqb (getD (now (cells .entry)) (at + 2) 0) 0) ⌝ }
+{
+    (cells[at] == 0) & (cells[at + 1] == 0) & (cells[at + 2] == 0)
 }
 
 // The byte in a cell leaves, another takes its place.
@@ -151,16 +184,24 @@ fn replace(cells: &mut [u16], at: usize, id: u8)
     add(cells, id, ONE_MORE);
 }
 
-// Adds a number to the support of an id; 0 is no vote.
+// Adds a number to the support of an id. It stores in any case: that is quicker than a test for 0.
 fn add(cells: &mut [u16], id: u8, n: u16)
     requires { ⌜ 256 ≤ length (now cells) ⌝ }
     ensures { λ r. ⌜ now (cells .exit) ≡ added (now (cells .entry)) id n ⌝ }
 {
-    if id == 0 {
-        return;
-    }
     let i = id as usize;
-    cells[i] = std::num::wrapping_add_u16(cells[i], n);
+    cells[i] = counted(cells[i], id, n);
+}
+
+// A support with a number added, for an id; 0 is no vote.
+fn counted(support: u16, id: u8, n: u16) -> u16
+    ensures { λ r. ⌜ r ≡ cond (eqb id 0) support ((support + n) % 65536) ⌝ }
+{
+    if id == 0 {
+        support
+    } else {
+        std::num::wrapping_add_u16(support, n)
+    }
 }
 
 fn onward(w: Window) -> Window

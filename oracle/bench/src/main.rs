@@ -1,6 +1,8 @@
-//! Times the port and the Rust over the same records in memory, and program `replay` beside `sha256sum`.
+//! Times the port and the Rust over the same records in memory, a window of support beside counting it afresh, and program
+//! `replay` beside `sha256sum`.
 
 mod streams;
+mod window;
 
 use std::fs::{self, File};
 use std::io;
@@ -19,6 +21,7 @@ fn main() -> io::Result<()> {
     let streams = streams::all();
     println!("{EPOCHS} epochs in memory, the best of {RUNS} runs; no buffer is cleared between runs");
     streams.iter().for_each(in_memory);
+    window::time();
     println!("end to end, from a file, the best of {RUNS} runs");
     let folder = Path::new("target/bench");
     fs::create_dir_all(folder)?;
@@ -70,7 +73,7 @@ fn run(program: &str, arguments: &[&PathBuf], input: &Path) {
 }
 
 /// The least time of all runs, in seconds.
-fn best(run: impl Fn()) -> f64 {
+fn best(mut run: impl FnMut()) -> f64 {
     let times = (0..RUNS).map(|_| {
         let begin = Instant::now();
         run();

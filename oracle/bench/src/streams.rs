@@ -1,12 +1,12 @@
-//! The streams that are timed: 2,000 epochs each, all accepted.
+//! The streams that are timed: 2,000 epochs each, all accepted. Headers alone, which vote as theirs do.
 
 use oracle::rules::{self, Votes};
-use oracle::streams::build::{headers, Stream};
+use oracle::streams::build::{headers, Stream, QUIET};
 
 pub const EPOCHS: usize = 2_000;
 pub const HEADERS: usize = 1_024;
 
-const FORK: u8 = 120;
+pub const FORK: u8 = 120;
 const PARAMETERS: u64 = 8;
 
 /// A stream's records, one after another.
@@ -15,9 +15,18 @@ pub struct Timed {
     pub records: Vec<Vec<u8>>,
 }
 
-/// No votes; votes in one header of ten; votes in every header. Rounds and ordinary votes are in the last two.
+/// In how many headers of a hundred there are votes: in none, in one of ten, in every one. Rounds and ordinary votes are in the
+/// last two.
+pub const VOTING: [(&str, u64); 3] = [("quiet", 0), ("mixed", 10), ("full", 100)];
+
 pub fn all() -> [Timed; 3] {
-    [timed("quiet", 0), timed("mixed", 10), timed("full", 100)]
+    VOTING.map(|(name, voting)| timed(name, voting))
+}
+
+/// So many headers without records.
+pub fn headers_alone(count: usize, voting: u64) -> Vec<Votes> {
+    let mut random = Random(1);
+    (0..count).map(|_| header(&mut random, voting)).collect()
 }
 
 fn timed(name: &'static str, voting: u64) -> Timed {
@@ -44,12 +53,17 @@ fn record(stream: &Stream, random: &mut Random, voting: u64) -> Vec<u8> {
 
 fn votes(random: &mut Random, voting: u64) -> Vec<Votes> {
     let mut votes = headers(&[]);
-    for header in &mut votes {
-        if random.below(100) < voting {
-            *header = legal(random);
-        }
-    }
+    votes.fill_with(|| header(random, voting));
     votes
+}
+
+/// With votes in so many of a hundred.
+fn header(random: &mut Random, voting: u64) -> Votes {
+    if random.below(100) < voting {
+        legal(random)
+    } else {
+        QUIET
+    }
 }
 
 /// Up or down for a parameter, up for another, and the fork; what is not legal so has one vote for the fork alone.

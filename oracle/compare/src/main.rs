@@ -1,11 +1,13 @@
 //! `compare [SEED]`: feeds the Rust and the static library the same inputs, and compares the answers byte by byte. It prints a
-//! line for each kind of inputs, and fails if an answer differs or a kind had no input.
+//! line for each kind of inputs, and fails if an answer differs or a kind had no input. What the Rust has no function for is
+//! written anew beside its own (`windows`).
 
 mod door;
 mod exhaustive;
 mod long;
 mod report;
 mod streams;
+mod windows;
 
 use std::process::ExitCode;
 
@@ -24,6 +26,8 @@ fn main() -> ExitCode {
     let mut reports: Vec<Report> = exhaustive.chain(random).collect();
     reports.push(print("long lists", long::run(&mut Random::new(seed))));
     reports.push(print("lines over streams", streams::run(&mut Random::new(seed))));
+    reports.push(print("windows, header by header", windows::header_by_header(&mut Random::new(seed))));
+    reports.push(print("windows, any cells", windows::any_cells(&mut Random::new(seed))));
     let [compared, differ, outside] =
         [Report::compared, Report::differ, Report::outside].map(|f| reports.iter().map(f).sum::<u64>());
     println!("{compared} compared, {differ} differ, {outside} outside");

@@ -87,6 +87,22 @@ impl Report {
         });
     }
 
+    /// Compares what a call on a window answers, and the cells that it leaves. Shown is the first cell that differs.
+    pub fn compare_window(&mut self, asked: &str, input: &[u8], rust: (i64, &[u16]), library: (i64, &[u16])) {
+        let first = || rust.1.iter().zip(library.1).position(|(one, other)| one != other);
+        let shown = |(answer, cells): (i64, &[u16])| match first() {
+            Some(i) => format!("{answer}, cell {i} is {}", cells[i]),
+            None => format!("{answer}"),
+        };
+        self.compared += 1;
+        self.count(rust == library, || Difference {
+            input: format!("{asked} {}", hex(input)),
+            size: input.len(),
+            rust: format!("has no window; its header check and the rules say {}", shown(rust)),
+            library: shown(library),
+        });
+    }
+
     /// Compares texts for an input of records, line by line.
     pub fn compare_texts(&mut self, input: &[u8], rust: &[u8], library: &[u8]) {
         let line =

@@ -1,17 +1,19 @@
 -- The refusals of the calls, and what the calls leave, refused or not.
 -- Assumes nothing.
 use mathlib.Core.Path.{_≡_, refl, sym, ap, _∙_}
-use mathlib.Core.Bool.{Bool, true, false, cond, _&&_}
-use mathlib.Core.List.{List, _∷_, _++_}
+use mathlib.Core.Bool.{Bool, true, false, cond, not, _&&_}
+use mathlib.Core.List.{List, [], _∷_, _++_}
 use Prim.Native.Nat.{ℕ, zero, suc, _+_, _%_, _≤_, _<_}
 use native.Mathlib.Numerals.{add-one}
 use native.Mathlib.Omega.{arith}
-use borrow.Author.Tests.{leb-true, ltb-true, le-leb, lt-ltb, le-ltb, eq-eqb, ne-eqb}
-use lib.Dec.{ltb, leb}
+use borrow.Author.Tests.{not-false, eqb-true, leb-true, ltb-true, le-leb, lt-ltb, le-ltb, eq-eqb, ne-eqb}
+use lib.Dec.{ltb, leb, eqb}
 use lib.ListN.{length, drop, getD, set, replicate, length-replicate}
 use lib.Seq.{drop-cons, set-at}
 use Rattle.codec.specs.Refusal.{outputShort, windowLengthOutside}
-use Rattle.voting.specs.Common.{first}
+use Rattle.codec.proofs.Laws.Lists.{all-elements}
+use Rattle.voting.specs.Common.{count, first}
+use Rattle.voting.specs.Header.{votesIn, faultIn, checkVotes, checkHeaderVotes}
 use Rattle.voting.proofs.Laws.Tests.{both}
 use Rattle.voting.proofs.Laws.Header.{first-pass, first-stop, first-zero}
 use Rattle.support.specs.declared.window.Window.{Window}
@@ -31,13 +33,29 @@ cleared-more cells now i h e =
 pub cleared-all : (cells now : List ℕ) (i n : ℕ) → i ≤ n → n ≤ i → now ≡ replicate i 0 ++ drop i cells → now ≡ replicate n 0 ++ drop n cells
 cleared-all cells now i n h k e = let q : i ≡ n = omega arith in rw q at e
 
-pub added-none : (cells : List ℕ) (id n : ℕ) → id ≡ 0 → cells ≡ added cells id n
-unfolding added
-added-none cells id n q = rw q
+set-self : (cells : List ℕ) (i : ℕ) → set cells i (getD cells i 0) ≡ cells
+set-self [] i = refl
+set-self (x ∷ cells) zero = refl
+set-self (x ∷ cells) (suc i) = ap (λ (ys : List ℕ). x ∷ ys) (set-self cells i)
 
-pub added-one : (cells : List ℕ) (id n x : ℕ) → (id ≡ 0 → ⊥) → x ≡ (getD cells id 0 + n) % 65536 → set cells id x ≡ added cells id n
+pub counted-none : (support id n : ℕ) → id ≡ 0 → support ≡ cond (eqb id 0) support ((support + n) % 65536)
+counted-none support id n e = rw e
+
+pub counted-vote : (support id n x : ℕ) → (id ≡ 0 → ⊥) → x ≡ (support + n) % 65536 → x ≡ cond (eqb id 0) support ((support + n) % 65536)
+counted-vote support id n x h e = rw (ne-eqb id 0 h) e
+
+pub added-is : (cells : List ℕ) (id n x : ℕ) → x ≡ cond (eqb id 0) (getD cells id 0) ((getD cells id 0 + n) % 65536) → set cells id x ≡ added cells id n
 unfolding added
-added-one cells id n x h e = rw (ne-eqb id 0 h, e)
+added-is cells id n x e = rw e (go (eqb id 0))
+  where
+    go : (t : Bool) → set cells id (cond t (getD cells id 0) ((getD cells id 0 + n) % 65536)) ≡ cond t cells (set cells id ((getD cells id 0 + n) % 65536))
+    go true = set-self cells id
+    go false = refl
+
+-- no byte enters and none leaves
+replaced-none : (cells : List ℕ) (at id : ℕ) → id ≡ 0 → getD cells at 0 ≡ 0 → replaced cells at id ≡ cells
+unfolding replaced added
+replaced-none cells at id e f = rw (e, f) (ap (set cells at) (sym f) ∙ set-self cells at)
 
 pub replaced-is : (cells : List ℕ) (at id : ℕ) (a b : List ℕ) → a ≡ added cells (getD cells at 0 % 256) oneLess → b ≡ added (set a at id) id oneMore → b ≡ replaced cells at id
 unfolding replaced
@@ -46,6 +64,42 @@ replaced-is cells at id a b e f = rw e at f
 pub entered-is : (cells : List ℕ) (at : ℕ) (votes a b c : List ℕ) → a ≡ replaced cells at (getD votes 0 0) → b ≡ replaced a (at + 1) (getD votes 1 0) → c ≡ replaced b (at + 2) (getD votes 2 0) → c ≡ entered cells at votes
 unfolding entered
 entered-is cells at votes a b c e f g = rw (f, e) at g
+
+abbrev allZero : ℕ → ℕ → ℕ → Bool
+allZero a b c = eqb a 0 && eqb b 0 && eqb c 0
+
+all-zero : (a b c : ℕ) → allZero a b c ≡ true → (a ≡ 0) × (b ≡ 0) × (c ≡ 0)
+all-zero a b c e =
+    let p = both (eqb a 0 && eqb b 0) (eqb c 0) e in
+    let q = both (eqb a 0) (eqb b 0) (p .0) in
+    (eqb-true a 0 (q .0), eqb-true b 0 (q .1), eqb-true c 0 (p .1))
+
+pub entered-none : (cells : List ℕ) (at : ℕ) (votes : List ℕ) (p q : Bool) → p ≡ allZero (getD votes 0 0) (getD votes 1 0) (getD votes 2 0) → q ≡ allZero (getD cells at 0) (getD cells (at + 1) 0) (getD cells (at + 2) 0) → p && q ≡ true → cells ≡ entered cells at votes
+unfolding entered
+entered-none cells at votes p q is-p is-q e =
+    let t = both p q e in
+    let none = all-zero (getD votes 0 0) (getD votes 1 0) (getD votes 2 0) (sym is-p ∙ t .0) in
+    let bytes = all-zero (getD cells at 0) (getD cells (at + 1) 0) (getD cells (at + 2) 0) (sym is-q ∙ t .1) in
+    sym
+    (rw (
+      replaced-none cells at (getD votes 0 0) (none .0) (bytes .0),
+      replaced-none cells (at + 1) (getD votes 1 0) (none .1) (bytes .1),
+      replaced-none cells (at + 2) (getD votes 2 0) (none .2) (bytes .2),
+    ))
+
+-- a header without votes is legal
+pub no-votes-legal : checkHeaderVotes (0 ∷ 0 ∷ 0 ∷ []) ≡ 0
+unfolding checkHeaderVotes checkVotes votesIn faultIn count
+no-votes-legal = refl
+
+pub voteless-legal : (votes : List ℕ) → length votes ≡ 3 → (p : Bool) → p ≡ allZero (getD votes 0 0) (getD votes 1 0) (getD votes 2 0) → p ≡ true → 0 ≡ checkHeaderVotes votes
+voteless-legal votes l p is-p t =
+    let none = all-zero (getD votes 0 0) (getD votes 1 0) (getD votes 2 0) (sym is-p ∙ t) in
+    sym (ap checkHeaderVotes (sym (all-elements 3 votes l)) ∙ rw (none .0, none .1, none .2) no-votes-legal)
+
+pub passes-legal : (votes : List ℕ) → length votes ≡ 3 → (p : Bool) → p ≡ not (eqb (checkHeaderVotes (getD votes 0 0 ∷ getD votes 1 0 ∷ getD votes 2 0 ∷ [])) 0) → p ≡ false → 0 ≡ checkHeaderVotes votes
+passes-legal votes l p is-p f =
+    sym (ap checkHeaderVotes (sym (all-elements 3 votes l)) ∙ eqb-true (checkHeaderVotes (getD votes 0 0 ∷ getD votes 1 0 ∷ getD votes 2 0 ∷ [])) 0 (not-false _ (sym is-p ∙ f)))
 
 -- ---- the window
 

@@ -10,14 +10,14 @@ use lib.Dec.{eqb}
 use lib.ListN.{length, take, drop, getD, length-append, length-drop, replicate, length-replicate, getD-replicate, replicate-append-replicate, List·getD-append}
 use lib.Seq.{length-take-le, take-at, drop-at}
 use Rattle.voting.specs.Common.{count, Each}
-use Rattle.voting.specs.Header.{checkHeaderVotes, checkVotes, votesIn, faultIn, votesFor, AllLegal}
+use Rattle.voting.specs.Header.{checkHeaderVotes, votesFor, AllLegal}
 use Rattle.voting.specs.Tally.{headers}
 use Rattle.voting.proofs.Laws.Tests.{by-test}
 use Rattle.voting.proofs.Laws.Tally.{whole-threes, votes-headers}
 use Rattle.support.specs.declared.window.Window.{Window}
 use Rattle.support.specs.Support.{IsHeader}
 use Rattle.support.specs.Window.{lengthMost, cellOf, empty, replaced, entered, moreHeld, onward}
-use Rattle.support.proofs.Laws.Calls.{place-first, place-next, onward-is}
+use Rattle.support.proofs.Laws.Calls.{no-votes-legal, place-first, place-next, onward-is}
 use Rattle.support.proofs.Laws.Ring.{turned-round, counted, Holds, holds-one, each-snoc}
 
 -- three bytes, one after another
@@ -177,10 +177,6 @@ flat-none (suc n) =
 zeros-small : (n : ℕ) → Each (λ b. b < 256) (replicate n 0)
 zeros-small zero = tt
 zeros-small (suc n) = (omega arith, zeros-small n)
-
-no-votes-legal : checkHeaderVotes noVotes ≡ 0
-unfolding checkHeaderVotes checkVotes votesIn faultIn count
-no-votes-legal = refl
 
 zeros-legal : (n : ℕ) → Each Legal (replicate n noVotes)
 zeros-legal zero = tt

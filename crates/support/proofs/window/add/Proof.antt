@@ -1,20 +1,17 @@
 -- `support::window::add` meets its contract. Assumes nothing.
-use Rattle.support.proofs.Laws.Calls.{added-none, added-one}
+use Rattle.support.proofs.Laws.Calls.{added-is}
 use borrow.Author.Needs.{needs}
 use Rattle.support.proofs.window.add.Statement.{statement}
 use Rattle.support.proofs.window.add.Tie as tie
 
-returns : tie.Need-returns
-returns c = added-none _ _ _ (c .if1 .taken)
+mul-counted : tie.Need-mul-counted
+mul-counted c = search needs
 
-mul-wrapping-add-u16 : tie.Need-mul-wrapping-add-u16
-mul-wrapping-add-u16 c = search needs
+slice-read-counted : tie.Need-slice-read-counted
+slice-read-counted c = search needs
 
-slice-read-wrapping-add-u16 : tie.Need-slice-read-wrapping-add-u16
-slice-read-wrapping-add-u16 c = search needs
-
-wrapping-add-u16-requires : tie.Need-wrapping-add-u16-requires
-wrapping-add-u16-requires c κs = search needs
+counted-requires : tie.Need-counted-requires
+counted-requires c κs = search needs
 
 mul-cells : tie.Need-mul-cells
 mul-cells c = search needs
@@ -25,18 +22,17 @@ slice-write-cells c = search needs
 same-length : tie.Need-same-length
 same-length c = search needs
 
-returns-2 : tie.Need-returns-2
-returns-2 c = added-one _ _ _ _ (c .before .before .if1 .left) (c .wrapping-add-u16 .ensures)
+returns : tie.Need-returns
+returns c = added-is _ _ _ _ (c .counted .ensures)
 
 pub add-spec : {M : Type 1} → statement M
 add-spec =
     tie.close
     (tie.spec
-    returns
-    mul-wrapping-add-u16
-    slice-read-wrapping-add-u16
-    wrapping-add-u16-requires
+    mul-counted
+    slice-read-counted
+    counted-requires
     mul-cells
     slice-write-cells
     same-length
-    returns-2)
+    returns)

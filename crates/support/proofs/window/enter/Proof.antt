@@ -1,8 +1,20 @@
 -- `support::window::enter` meets its contract. Assumes nothing.
-use Rattle.support.proofs.Laws.Calls.{entered-is}
+use Rattle.support.proofs.Laws.Calls.{entered-none, entered-is}
 use borrow.Author.Needs.{needs}
 use Rattle.support.proofs.window.enter.Statement.{statement}
 use Rattle.support.proofs.window.enter.Tie as tie
+
+no-votes-requires : tie.Need-no-votes-requires
+no-votes-requires c κs = search needs
+
+no-bytes-requires : tie.Need-no-bytes-requires
+no-bytes-requires c κs = search needs
+
+same-length : tie.Need-same-length
+same-length c = search needs
+
+returns : tie.Need-returns
+returns c = let bytes = c .before in let votes = bytes .before .before in entered-none _ _ _ _ _ (votes .no-votes .ensures) (bytes .no-bytes .ensures) (c .if1 .taken)
 
 array-read-replace : tie.Need-array-read-replace
 array-read-replace c = search needs
@@ -28,16 +40,20 @@ array-read-replace-3 c = search needs
 replace-requires-3 : tie.Need-replace-requires-3
 replace-requires-3 c κs = search needs
 
-same-length : tie.Need-same-length
-same-length c = search needs
+same-length-2 : tie.Need-same-length-2
+same-length-2 c = search needs
 
-returns : tie.Need-returns
-returns c = entered-is _ _ _ _ _ _ (c .before .before .before .before .before .before .before .before .before .before .replace .ensures) (c .before .before .before .before .before .before .replace2 .ensures) (c .before .before .replace3 .ensures)
+returns-2 : tie.Need-returns-2
+returns-2 c = let third = c .before .before in let second = third .before .before .before .before in let first = second .before .before .before .before in entered-is _ _ _ _ _ _ (first .replace .ensures) (second .replace2 .ensures) (third .replace3 .ensures)
 
 pub enter-spec : {M : Type 1} → statement M
 enter-spec =
     tie.close
     (tie.spec
+    no-votes-requires
+    no-bytes-requires
+    same-length
+    returns
     array-read-replace
     replace-requires
     add-replace
@@ -46,5 +62,5 @@ enter-spec =
     add-replace-2
     array-read-replace-3
     replace-requires-3
-    same-length
-    returns)
+    same-length-2
+    returns-2)
