@@ -47,11 +47,12 @@ unfoldable pub votesOfEach : List (List ℕ) → List (List ℕ)
 votesOfEach [] = []
 votesOfEach (votes ∷ headers) = votesAt votes 0 ∷ votesOfEach headers
 
--- the first 256 cells and the number of headers held are those of a count made afresh
+-- the window of that number, with the cells
 unfoldable pub numberWindow : Reply → Left
 numberWindow (reply w cells) = left (record { refusal = 0; window = windowAt w }) cells
 
--- so it is after every list of byte strings, refused ones included, if the window was not refused itself
+-- after every list of byte strings, refused ones included, the cells and the window have the support counted afresh, if the window was not refused
+-- itself
 abbrev pub KeptThrough : ℕ → ℕ → List ℕ → Type 0
 KeptThrough n w cells =
     w < 2 ^ 63 → (headers : List (List ℕ)) → Each (Each (λ b. b < 256)) headers → Kept n (votesOfEach headers) (numberWindow (putOn (reply w cells) headers))
