@@ -94,7 +94,7 @@ fn put_refusal(w: Window, room: usize, votes: [u8; 3]) -> u8
     room_refusal(w, room)
 }
 
-// The header check. Most headers have no votes, and most of the others are legal, which a test without branches tells.
+// The header check. Most headers have no votes, and most of the others are legal, which a quicker test tells.
 fn header_refusal(votes: [u8; 3]) -> u8
     ensures { λ r. ⌜ r ≡ checkHeaderVotes votes ⌝ }
 {
