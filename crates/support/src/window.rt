@@ -110,7 +110,13 @@ fn header_refusal(votes: [u8; 3]) -> u8
 fn no_votes(votes: [u8; 3]) -> bool
     ensures { λ r. ⌜ r ≡ (eqb (getD votes 0 0) 0 && eqb (getD votes 1 0) 0 && eqb (getD votes 2 0) 0) ⌝ }
 {
-    (votes[0] == 0) & (votes[1] == 0) & (votes[2] == 0)
+    all_zero(votes[0] as u16, votes[1] as u16, votes[2] as u16)
+}
+
+fn all_zero(a: u16, b: u16, c: u16) -> bool
+    ensures { λ r. ⌜ r ≡ (eqb a 0 && eqb b 0 && eqb c 0) ⌝ }
+{
+    (a == 0) & (b == 0) & (c == 0)
 }
 
 // 21 unless it is a window, and the cells hold it.
@@ -157,20 +163,12 @@ fn enter(cells: &mut [u16], at: usize, votes: [u8; 3])
     requires { ⌜ (256 ≤ at) × (at + 2 < length (now cells)) ⌝ }
     ensures { λ r. ⌜ now (cells .exit) ≡ entered (now (cells .entry)) at votes ⌝ }
 {
-    if no_votes(votes) & no_bytes(cells, at) {
+    if no_votes(votes) & all_zero(cells[at], cells[at + 1], cells[at + 2]) {
         return;
     }
     replace(cells, at, votes[0]);
     replace(cells, at + 1, votes[1]);
     replace(cells, at + 2, votes[2]);
-}
-
-// Whether three cells are 0.
-fn no_bytes(cells: &[u16], at: usize) -> bool
-    requires { ⌜ at + 2 < length (now cells) ⌝ }
-    ensures { λ r. ⌜ r ≡ (eqb (getD (now (cells .entry)) at 0) 0 && eqb (getD (now (cells .entry)) (at + 1) 0) 0 && eqb (getD (now (cells .entry)) (at + 2) 0) 0) ⌝ }
-{
-    (cells[at] == 0) & (cells[at + 1] == 0) & (cells[at + 2] == 0)
 }
 
 // The byte in a cell leaves, another takes its place.

@@ -9,7 +9,7 @@ use native.Mathlib.Omega.{arith}
 use borrow.Author.Tests.{not-false, eqb-true, leb-true, ltb-true, le-leb, lt-ltb, le-ltb, eq-eqb, ne-eqb}
 use lib.Dec.{ltb, leb, eqb}
 use lib.ListN.{length, drop, getD, set, replicate, length-replicate}
-use lib.Seq.{drop-cons, set-at}
+use lib.Seq.{drop-cons, set-at, set-getD}
 use Rattle.codec.specs.Refusal.{outputShort, windowLengthOutside}
 use Rattle.codec.proofs.Laws.Lists.{all-elements}
 use Rattle.voting.specs.Common.{count, first}
@@ -33,11 +33,6 @@ cleared-more cells now i h e =
 pub cleared-all : (cells now : List ℕ) (i n : ℕ) → i ≤ n → n ≤ i → now ≡ replicate i 0 ++ drop i cells → now ≡ replicate n 0 ++ drop n cells
 cleared-all cells now i n h k e = let q : i ≡ n = omega arith in rw q at e
 
-set-self : (cells : List ℕ) (i : ℕ) → set cells i (getD cells i 0) ≡ cells
-set-self [] i = refl
-set-self (x ∷ cells) zero = refl
-set-self (x ∷ cells) (suc i) = ap (λ (ys : List ℕ). x ∷ ys) (set-self cells i)
-
 pub counted-none : (support id n : ℕ) → id ≡ 0 → support ≡ cond (eqb id 0) support ((support + n) % 65536)
 counted-none support id n e = rw e
 
@@ -49,13 +44,13 @@ unfolding added
 added-is cells id n x e = rw e (go (eqb id 0))
   where
     go : (t : Bool) → set cells id (cond t (getD cells id 0) ((getD cells id 0 + n) % 65536)) ≡ cond t cells (set cells id ((getD cells id 0 + n) % 65536))
-    go true = set-self cells id
+    go true = set-getD cells id 0
     go false = refl
 
 -- no byte enters and none leaves
 replaced-none : (cells : List ℕ) (at id : ℕ) → id ≡ 0 → getD cells at 0 ≡ 0 → replaced cells at id ≡ cells
 unfolding replaced added
-replaced-none cells at id e f = rw (e, f) (ap (set cells at) (sym f) ∙ set-self cells at)
+replaced-none cells at id e f = rw (e, f) (ap (set cells at) (sym f) ∙ set-getD cells at 0)
 
 pub replaced-is : (cells : List ℕ) (at id : ℕ) (a b : List ℕ) → a ≡ added cells (getD cells at 0 % 256) oneLess → b ≡ added (set a at id) id oneMore → b ≡ replaced cells at id
 unfolding replaced
