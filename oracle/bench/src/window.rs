@@ -18,6 +18,15 @@ const COUNTED: usize = 10_000;
 /// Bytes of headers that are looked through at once; a byte can count them.
 const AT_ONCE: usize = 192;
 
+/// Headers that are passed over at once if none has votes.
+const PASSED: usize = 8;
+
+type Form = fn(&Ring) -> [u16; SUPPORTS];
+
+/// Ways to count all ids.
+const FORMS: [(&str, Form); 3] =
+    [("byte by byte", Ring::byte_by_byte), ("slot by slot", Ring::slot_by_slot), ("passing over", Ring::passing_over)];
+
 pub fn time() {
     println!("{PUT} headers put into a window, one support read at each, and {COUNTED} counted afresh, the best of {RUNS} runs");
     for length in LENGTHS {
@@ -34,31 +43,26 @@ fn timed(length: usize, name: &str, voting: u64) {
         ring.put(votes);
         assert_eq!(port.support(FORK), ring.support(FORK));
     }
-    assert_eq!(port.cells[..SUPPORTS], ring.supports());
-    assert_eq!(port.cells[..SUPPORTS], ring.supports_quick());
+    for (_, supports) in FORMS {
+        assert_eq!(port.cells[..SUPPORTS], supports(&ring));
+    }
     let put = each(&headers, |votes| {
         port.put(votes);
         port.support(FORK)
     });
-    let all = each(&headers[..COUNTED], |votes| {
-        ring.put(votes);
-        black_box(&ring.supports())[usize::from(FORK)]
-    });
-    let quick = each(&headers[..COUNTED], |votes| {
-        ring.put(votes);
-        black_box(&ring.supports_quick())[usize::from(FORK)]
-    });
+    println!("{name}, {length}: put {put:.1} ns a header");
+    for (form, supports) in FORMS {
+        let all = each(&headers[..COUNTED], |votes| {
+            ring.put(votes);
+            black_box(&supports(&ring))[usize::from(FORK)]
+        });
+        println!("  all ids afresh, {form}: {all:.0} ns, ratio {:.0}", all / put);
+    }
     let one = each(&headers[..COUNTED], |votes| {
         ring.put(votes);
         ring.support(FORK)
     });
-    println!(
-        "{name}, {length}: put {put:.1} ns a header, all ids afresh {all:.0} ns, ratio {:.0}, quickest {quick:.0} ns, ratio {:.0}, \
-         one id {one:.0} ns, ratio {:.1}",
-        all / put,
-        quick / put,
-        one / put
-    );
+    println!("  one id afresh: {one:.0} ns, ratio {:.1}", one / put);
 }
 
 /// The time of a header, in nanoseconds.
@@ -111,27 +115,27 @@ impl Ring {
         self.oldest = if self.oldest + 1 == self.headers.len() { 0 } else { self.oldest + 1 };
     }
 
-    /// Byte by byte.
-    fn supports(&self) -> [u16; SUPPORTS] {
+    fn byte_by_byte(&self) -> [u16; SUPPORTS] {
         let mut supports = [0; SUPPORTS];
         self.headers.as_flattened().iter().for_each(|&id| supports[usize::from(id)] += 1);
         supports[0] = 0;
         supports
     }
 
-    /// The quickest of several forms that were tried: headers without votes are passed over, and each slot has counts of its own,
-    /// so that few sums wait for the one before.
-    fn supports_quick(&self) -> [u16; SUPPORTS] {
+    /// Each slot has counts of its own, so that few sums wait for the one before.
+    fn slot_by_slot(&self) -> [u16; SUPPORTS] {
         let mut slots = [[0; SUPPORTS]; 3];
-        for votes in &self.headers {
-            if *votes != [0; 3] {
-                slots.iter_mut().zip(votes).for_each(|(counts, &id)| counts[usize::from(id)] += 1);
-            }
-        }
-        let [first, second, third] = &slots;
-        let mut supports: [u16; SUPPORTS] = std::array::from_fn(|id| first[id] + second[id] + third[id]);
-        supports[0] = 0;
-        supports
+        self.headers.iter().for_each(|votes| count(&mut slots, votes));
+        sum(&slots)
+    }
+
+    /// As slot by slot; eight headers without votes are passed over at once, and others without votes one by one.
+    fn passing_over(&self) -> [u16; SUPPORTS] {
+        let mut slots = [[0; SUPPORTS]; 3];
+        let (groups, rest) = self.headers.as_chunks::<PASSED>();
+        let voting = groups.iter().filter(|group| **group != [[0; 3]; PASSED]).flatten().chain(rest);
+        voting.filter(|votes| **votes != [0; 3]).for_each(|votes| count(&mut slots, votes));
+        sum(&slots)
     }
 
     /// The support of one id, which is not 0.
@@ -139,4 +143,14 @@ impl Ring {
         let groups = self.headers.as_flattened().chunks(AT_ONCE);
         groups.map(|bytes| u16::from(bytes.iter().map(|b| u8::from(*b == id)).sum::<u8>())).sum()
     }
+}
+
+fn count(slots: &mut [[u16; SUPPORTS]; 3], votes: &Votes) {
+    slots.iter_mut().zip(votes).for_each(|(counts, &id)| counts[usize::from(id)] += 1);
+}
+
+fn sum([first, second, third]: &[[u16; SUPPORTS]; 3]) -> [u16; SUPPORTS] {
+    let mut supports: [u16; SUPPORTS] = std::array::from_fn(|id| first[id] + second[id] + third[id]);
+    supports[0] = 0;
+    supports
 }
