@@ -4,6 +4,7 @@ pub mod Parameters
 pub mod Mandatory
 pub mod Update
 pub mod Boundary
+pub mod Order
 pub mod Examples
 pub mod Pack
 pub mod Encode

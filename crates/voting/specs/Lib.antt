@@ -7,3 +7,4 @@ pub mod ForkCheck
 pub mod ForkPart
 pub mod Ordinary
 pub mod Boundary
+pub mod Order
