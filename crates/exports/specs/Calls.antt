@@ -3,7 +3,7 @@
 use Prim.Native.Nat.{ℕ, zero, suc, _≤_}
 use mathlib.Core.Path.{_≡_}
 use mathlib.Core.Bool.{Bool, cond}
-use mathlib.Core.List.{List, [], _∷_}
+use mathlib.Core.List.{List, [], _∷_, List·Permᴰ}
 use lib.ListN.{getD}
 use Rattle.codec.specs.BigEndian.{bigEndian}
 use Rattle.codec.specs.Refusal.{recordMalformed}
@@ -14,6 +14,7 @@ use Rattle.voting.specs.declared.settings.VotingConfig.{VotingConfig}
 use Rattle.voting.specs.declared.tally.Entry.{Entry}
 use Rattle.voting.specs.declared.tally.Tallied.{Tallied}
 use Rattle.voting.specs.Settings.{mainnet, testnet}
+use Rattle.voting.specs.Order.{Consistent, SameRefusal}
 use Rattle.extension.specs.declared.section.Parsed.{Parsed}
 use Rattle.extension.specs.declared.body.FieldAt.{FieldAt}
 use Rattle.extension.specs.declared.body.FieldAt.the-variants.{HasField, NoField}
@@ -41,7 +42,7 @@ use Rattle.wire.specs.State.{stateBytes}
 use Rattle.wire.specs.Places.{sectionBytes, updateBytes, fieldBytes, ruleBytes, statusBytes, recordBytes}
 use Rattle.wire.specs.Map.{mapBytes}
 use Rattle.wire.specs.Boundary.{questionOf, computedBytes}
-use Rattle.exports.specs.Reply.{Reply, reply, minus, placed, withId}
+use Rattle.exports.specs.Reply.{Reply, reply, minus, numbered, placed, withId}
 
 -- a network's number: 0 is mainnet, any other testnet
 abbrev pub networkOf : ℕ → Network
@@ -127,3 +128,12 @@ computedBy q tally update = computedOf (q .config) (q .height) (q .table) tally 
 
 unfoldable pub boundaryOf : List Entry → List ℕ → List ℕ → Computed
 boundaryOf tally update question = computedBy (questionOf question) tally update
+
+-- the same cells; and the same number, or each is 13 or 14
+abbrev pub SameReply : Reply → Reply → Type 0
+SameReply (reply n xs) (reply m ys) = SameRefusal n m × (xs ≡ ys)
+
+-- the reply to a tally in which no entry repeats or contradicts another, beside the reply to every rearrangement of it
+abbrev pub RepliesInAnyOrder : List Entry → List ℕ → List ℕ → List ℕ → Reply → Type 0
+RepliesInAnyOrder tally update question cells x =
+    Consistent tally → (other : List Entry) → List·Permᴰ tally other → SameReply x (numbered (computedInto (boundaryOf other update question) cells))
