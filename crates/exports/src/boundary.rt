@@ -14,7 +14,7 @@ ghost use Rattle.extension.specs.Parameters.{checkParameters};
 ghost use Rattle.wire.specs.Values.{tableAt};
 ghost use Rattle.wire.specs.Map.{mapOf};
 ghost use Rattle.exports.specs.Reply.{reply, numbered, Told};
-ghost use Rattle.exports.specs.Calls.{computedInto, boundaryOf, matchedCode};
+ghost use Rattle.exports.specs.Calls.{computedInto, boundaryOf, RepliesInAnyOrder, matchedCode};
 
 fn write_computed(out: &mut [u8], x: Computed) -> u8
     ensures { λ r. ⌜ reply r (now (out .exit)) ≡ numbered (computedInto x (now (out .entry))) ⌝ }
@@ -26,7 +26,8 @@ fn write_computed(out: &mut [u8], x: Computed) -> u8
 }
 
 // The table after a boundary and the activated update, into cells: 0, or 22, 7, 8, 17 to 20, 13, 14, 21. An entry of the tally is eight
-// bytes: the id, three bytes of padding, the count in the machine's order. A question is settings, a height, a table and a flag.
+// bytes: the id, three bytes of padding, the count in the machine's order. A question is settings, a height, a table and a flag. If no entry
+// repeats or contradicts another, the tally's order decides nothing but which of 13 and 14 is met.
 #[no_mangle]
 pub extern "C" fn ergo_compute_boundary_parameters(
     tally: &[Entry],
@@ -34,7 +35,10 @@ pub extern "C" fn ergo_compute_boundary_parameters(
     question: &[u8],
     out: &mut [u8],
 ) -> u8
-    ensures { λ r. ⌜ reply r (now (out .exit)) ≡ numbered (computedInto (boundaryOf (now (tally .entry)) (now («proposed_update» .entry)) (now (question .entry))) (now (out .entry))) ⌝ }
+    ensures { λ r. ⌜
+        (reply r (now (out .exit)) ≡ numbered (computedInto (boundaryOf (now (tally .entry)) (now («proposed_update» .entry)) (now (question .entry))) (now (out .entry))))
+        × (RepliesInAnyOrder (now (tally .entry)) (now («proposed_update» .entry)) (now (question .entry)) (now (out .entry)) (reply r (now (out .exit))))
+        ⌝ }
 {
     write_computed(
         out,

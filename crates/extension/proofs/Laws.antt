@@ -6,6 +6,7 @@ pub mod Mandatory
 pub mod Matched
 pub mod Update
 pub mod Boundary
+pub mod Order
 pub mod Pack
 pub mod PackTrip
 pub mod Encode

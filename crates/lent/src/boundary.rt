@@ -20,6 +20,7 @@ ghost use mathlib.Core.Path.{_≡_};
 ghost use Rattle.voting.specs.Ordinary.{onward, voted};
 ghost use Rattle.voting.specs.Boundary.{refuses};
 ghost use Rattle.extension.specs.Boundary.{computedOf};
+ghost use Rattle.extension.specs.Order.{InAnyOrder};
 ghost use Rattle.lent.specs.Sweep.{begunOf, sweptOf, finishedFork, finishedRound, finishedOf};
 
 // What a boundary is asked, beside the tally of the epoch before and the bytes of the proposed update.
@@ -41,13 +42,17 @@ pub struct Sweep {
     pub voted: Voted,
 }
 
-// The table after a boundary and the activated update, or 22, 7, 8, 17 to 20, 13, 14.
+// The table after a boundary and the activated update, or 22, 7, 8, 17 to 20, 13, 14. If no entry repeats or contradicts another, the
+// tally's order decides nothing but which of 13 and 14 is met.
 pub fn compute_boundary_parameters(
     tally: &[Entry],
     proposed_update: &[u8],
     at: BoundaryAt,
 ) -> Computed
-    ensures { λ r. ⌜ r ≡ computedOf (at .config) (at .height) (at .table) (now (tally .entry)) (at .vote) (now («proposed_update» .entry)) ⌝ }
+    ensures { λ r. ⌜
+        (r ≡ computedOf (at .config) (at .height) (at .table) (now (tally .entry)) (at .vote) (now («proposed_update» .entry)))
+        × (InAnyOrder (at .config) (at .height) (at .table) (now (tally .entry)) (at .vote) (now («proposed_update» .entry)) r)
+        ⌝ }
 {
     let mut s = begun(at, proposed_update);
     let mut i: usize = 0;

@@ -9,4 +9,5 @@ pub mod Votes
 pub mod Ordinary
 pub mod Fork
 pub mod Boundary
+pub mod Order
 pub mod Refusals

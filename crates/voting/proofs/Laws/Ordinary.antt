@@ -1,7 +1,7 @@
 -- What the ordinary votes do: when they are refused, what each moves, and what they leave alone.
 -- Assumes nothing.
 use mathlib.Core.Path.{_≡_, refl, sym, ap, ap₂, _∙_, subst}
-use mathlib.Core.Bool.{Bool, true, false, not, cond, _&&_, _||_}
+use mathlib.Core.Bool.{Bool, true, false, not, cond, _&&_, _||_, true≢false}
 use mathlib.Core.Logic.{_⊎_, inl, inr}
 use mathlib.Core.List.{List, [], _∷_}
 use Prim.Native.Nat.{ℕ}
@@ -10,7 +10,7 @@ use lib.Dec.{eqb}
 use lib.IntN.{ℤ}
 use lib.ListN.{length}
 use borrow.Author.Tests.{eqb-true, eqb-false}
-use Rattle.codec.specs.Refusal.{unknownParameter}
+use Rattle.codec.specs.Refusal.{unknownParameter, absentParameter}
 use Rattle.voting.specs.declared.settings.VotingConfig.{VotingConfig}
 use Rattle.voting.specs.declared.table.Value.{Value}
 use Rattle.voting.specs.declared.table.Value.the-variants.{Absent, Number}
@@ -21,21 +21,35 @@ use Rattle.voting.specs.Table.{lookup, update}
 use Rattle.voting.specs.Ordinary.{parameter, moved, known, passes, stops, onward, counts, writes, approvedVote, voted, ordinaryVotes}
 use Rattle.voting.specs.Boundary.{isAbsent}
 use Rattle.voting.proofs.Laws.Tests.{every}
-use Rattle.voting.proofs.Laws.Table.{lookup-update-same, lookup-update-other, update-keeps, update-length}
+use Rattle.voting.proofs.Laws.Table.{absent-number, lookup-update-same, lookup-update-other, update-keeps, update-length}
+
+-- The ways of a vote: it does not count, its parameter is unknown or absent, or it moves its parameter. Which one it is the table so far
+-- does not say.
+pub by-vote : (P : (Table → Voted) → Type 0) (g : VotingConfig) (from : Table) (e : Entry)
+    → (counts g e ≡ false → P passes)
+    → (counts g e ≡ true → known (parameter (e .id)) ≡ false → P (λ new. stops new unknownParameter))
+    → (counts g e ≡ true → known (parameter (e .id)) ≡ true → lookup from (parameter (e .id)) ≡ Absent → P (λ new. stops new absentParameter))
+    → ((z : ℤ) → counts g e ≡ true → known (parameter (e .id)) ≡ true → lookup from (parameter (e .id)) ≡ Number z
+    → P (λ new. passes (update new (parameter (e .id)) (Number (moved (e .id) z)))))
+    → P (voted g from e)
+unfolding voted approvedVote writes
+by-vote P g from e silent unknown absent moves = go (counts g e) refl (known (parameter (e .id))) refl (lookup from (parameter (e .id))) refl
+  where
+    go : (b : Bool) → counts g e ≡ b → (k : Bool) → known (parameter (e .id)) ≡ k → (v : Value) → lookup from (parameter (e .id)) ≡ v
+        → P (λ new. cond b (cond k (writes (e .id) new v) (stops new unknownParameter)) (passes new))
+    go false c k q v l = silent c
+    go true c false q v l = unknown c q
+    go true c true q Absent l = absent c q l
+    go true c true q (Number z) l = moves z c q l
 
 -- Whether the votes are refused: an entry that does not count, or whose parameter is known and there
 unfoldable pub sound : VotingConfig → Table → Entry → Bool
 sound g from e = not (counts g e) || (known (parameter (e .id)) && not (isAbsent (lookup from (parameter (e .id)))))
 
 voted-refusal : (g : VotingConfig) (from : Table) (e : Entry) (new : Table) → eqb (voted g from e new .refusal) 0 ≡ sound g from e
-unfolding voted approvedVote writes sound isAbsent
-voted-refusal g from e new = go (counts g e) (known (parameter (e .id))) (lookup from (parameter (e .id)))
-  where
-    go : (b k : Bool) (v : Value) → eqb (cond b (cond k (writes (e .id) new v) (stops new unknownParameter)) (passes new) .refusal) 0 ≡ not b || (k && not (isAbsent v))
-    go false k v = refl
-    go true false v = refl
-    go true true Absent = refl
-    go true true (Number z) = refl
+unfolding sound isAbsent
+voted-refusal g from e new =
+    by-vote (λ f. eqb (f new .refusal) 0 ≡ sound g from e) g from e (λ c. rw c) (λ c k. rw (c, k)) (λ c k l. rw (c, k, l)) (λ z c k l. rw (c, k, l))
 
 onward-refusal : (v : Voted) (k : Table → Voted) → eqb (onward v k .refusal) 0 ≡ eqb (v .refusal) 0 && eqb (k (v .table) .refusal) 0
 unfolding onward
@@ -67,14 +81,8 @@ module _ (P : Table → Type 0) (g : VotingConfig) (from : Table) where
   Kept e = counts g e ≡ true → known (parameter (e .id)) ≡ true → (t : Table) (y : Value) → P t → P (update t (parameter (e .id)) y)
 
   voted-carries : (e : Entry) (new : Table) → Kept e → P new → P (voted g from e new .table)
-  unfolding voted approvedVote writes
-  voted-carries e new h p = go (counts g e) refl (known (parameter (e .id))) refl (lookup from (parameter (e .id)))
-    where
-      go : (b : Bool) → counts g e ≡ b → (k : Bool) → known (parameter (e .id)) ≡ k → (v : Value) → P (cond b (cond k (writes (e .id) new v) (stops new unknownParameter)) (passes new) .table)
-      go false c k q v = p
-      go true c false q v = p
-      go true c true q Absent = p
-      go true c true q (Number z) = h c q new (Number (moved (e .id) z)) p
+  voted-carries e new h p =
+      by-vote (λ f. P (f new .table)) g from e (λ c. p) (λ c k. p) (λ c k l. p) (λ z c k l. h c k new (Number (moved (e .id) z)) p)
 
   onward-carries : (v : Voted) (k : Table → Voted) → P (v .table) → P (k (v .table) .table) → P (onward v k .table)
   unfolding onward
@@ -114,13 +122,14 @@ onward-zero v k = go (eqb (v .refusal) 0) refl
 
 voted-moves : (g : VotingConfig) (from new : Table) (e : Entry) (z : ℤ) → counts g e ≡ true → lookup from (parameter (e .id)) ≡ Number z → voted g from e new .refusal ≡ 0
     → (known (parameter (e .id)) ≡ true) × (voted g from e new .table ≡ update new (parameter (e .id)) (Number (moved (e .id) z)))
-unfolding voted approvedVote writes
-voted-moves g from new e z c q = rw (c, q) (go (known (parameter (e .id))))
+voted-moves g from new e z c q =
+    by-vote (λ f. f new .refusal ≡ 0 → (known (parameter (e .id)) ≡ true) × (f new .table ≡ update new (parameter (e .id)) (Number (moved (e .id) z)))) g from e
+    (λ d. absurd (true≢false (sym c ∙ d))) (λ d k r. absurd (omega arith)) (λ d k l. absurd (absent-number z (sym l ∙ q)))
+    (λ y d k l r. (k, ap (λ (v : Value). valued v) (sym l ∙ q)))
   where
-    go : (k : Bool) → cond k (writes (e .id) new (Number z)) (stops new unknownParameter) .refusal ≡ 0
-        → (k ≡ true) × (cond k (writes (e .id) new (Number z)) (stops new unknownParameter) .table ≡ update new (parameter (e .id)) (Number (moved (e .id) z)))
-    go true h = (refl, refl)
-    go false h = absurd (omega arith)
+    valued : Value → Table
+    valued Absent = new
+    valued (Number y) = update new (parameter (e .id)) (Number (moved (e .id) y))
 
 head-moves : (g : VotingConfig) (from new : Table) (es : List Entry) (e : Entry) (z : ℤ) → length (new .ordinary) ≡ 9 → Apart (e ∷ es) → counts g e ≡ true
     → (ordinaryVotes g from (e ∷ es) new) .refusal ≡ 0 → lookup from (parameter (e .id)) ≡ Number z

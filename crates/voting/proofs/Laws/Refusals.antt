@@ -6,7 +6,7 @@ use mathlib.Core.List.{List, [], _∷_}
 use Prim.Native.Nat.{ℕ, zero, suc}
 use lib.Dec.{ltb, eqb}
 use lib.IntN.{ℤ, pos}
-use Rattle.codec.specs.Refusal.{tooManyVotes, repeatedVote, contradictoryVote, unknownParameter, entryDiffers, votingLengthZero, settingLarge, votesCollectedAbsent}
+use Rattle.codec.specs.Refusal.{tooManyVotes, repeatedVote, contradictoryVote, entryDiffers, votingLengthZero, settingLarge, votesCollectedAbsent}
 use Rattle.voting.specs.Common.{eqZ, count, first}
 use Rattle.voting.specs.Settings.{votingLength, settingsLarge}
 use Rattle.voting.specs.Table.{lookup, withFork}
@@ -14,7 +14,7 @@ use Rattle.voting.specs.Tally.{firstCount}
 use Rattle.voting.specs.Header.{votesIn, negation, softForkVote, ordinaryVote, votesFor, fault, faultIn, checkVotes, checkHeaderVotes}
 use Rattle.voting.specs.ForkCheck.{barred, checkRound, checkForkVote, forkRefusal}
 use Rattle.voting.specs.ForkPart.{noRound, happens, roundRefused, roundBy, roundFrom, roundAt, versionAfter, forkAfter}
-use Rattle.voting.specs.Ordinary.{parameter, known, passes, stops, onward, counts, writes, approvedVote, voted, ordinaryVotes}
+use Rattle.voting.specs.Ordinary.{onward, voted, ordinaryVotes}
 use Rattle.voting.specs.Boundary.{gate, afterVotes, afterFork, afterRound, boundaryOf}
 use Rattle.voting.specs.declared.settings.VotingConfig.{VotingConfig}
 use Rattle.voting.specs.declared.table.Value.{Value}
@@ -24,6 +24,7 @@ use Rattle.voting.specs.declared.table.Table.{Table}
 use Rattle.voting.specs.declared.tally.Entry.{Entry}
 use Rattle.voting.specs.declared.fork.ForkVote.the-variants.{Allowed, Barred, Refused}
 use Rattle.voting.specs.declared.boundary.Boundary.{Boundary}
+use Rattle.voting.proofs.Laws.Ordinary.{by-vote}
 
 -- a number that is not 15
 abbrev pub Other : ℕ → Type 0
@@ -117,14 +118,7 @@ version-other rose at votes start old (Number z) = refl
 
 module _ (g : VotingConfig) (from : Table) where
   voted-other : (e : Entry) (new : Table) → Other (voted g from e new .refusal)
-  unfolding voted approvedVote writes
-  voted-other e new = go (counts g e) (known (parameter (e .id))) (lookup from (parameter (e .id)))
-    where
-      go : (a b : Bool) (v : Value) → Other (cond a (cond b (writes (e .id) new v) (stops new unknownParameter)) (passes new) .refusal)
-      go true true Absent = refl
-      go true true (Number z) = refl
-      go true false v = refl
-      go false b v = refl
+  voted-other e new = by-vote (λ f. Other (f new .refusal)) g from e (λ c. refl) (λ c k. refl) (λ c k l. refl) (λ z c k l. refl)
 
   votes-other : (tally : List Entry) (new : Table) → Other (ordinaryVotes g from tally new .refusal)
   unfolding ordinaryVotes onward

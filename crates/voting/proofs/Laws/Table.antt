@@ -2,12 +2,13 @@
 -- Assumes nothing.
 use mathlib.Core.Path.{_≡_, refl, sym, ap, _∙_}
 use mathlib.Core.Bool.{true, false}
+use mathlib.Core.List.{List}
 use Prim.Native.Nat.{ℕ, _-_, _≤_, _<_}
 use native.Mathlib.Omega.{arith}
 use lib.Dec.{ltb, leb, eqb}
 use lib.IntN.{ℤ}
 use lib.ListN.{getD, set, length, length-set}
-use lib.Seq.{getD-set-same, getD-set-other}
+use lib.Seq.{getD-set-same, getD-set-other, set-comm}
 use borrow.Author.Tests.{ltb-false, eqb-true, leb-true, lt-ltb, le-ltb, ne-eqb}
 use Rattle.voting.specs.declared.table.Value.{Value}
 use Rattle.voting.specs.declared.table.Value.the-variants.{Absent, Number}
@@ -55,6 +56,17 @@ lookup-update-same t m v k l =
     ap (λ (u : Table). lookup u m) (update-known t m v k)
     ∙ lookup-known (withOrdinary t m v) m k
     ∙ ap (λ (s : Slot). s .value) (getD-set-same (t .ordinary) (m - 1) (slot v) (slot Absent) (omega arith))
+
+-- two parameters written in either order
+pub update-comm : (t : Table) (m k : ℕ) (v w : Value) → known m ≡ true → known k ≡ true → (m ≡ k → ⊥) → update (update t m v) k w ≡ update (update t k w) m v
+update-comm t m k v w p q d =
+    let r = known-range m p in
+    let s = known-range k q in
+    ap (λ (u : Table). update u k w) (update-known t m v p)
+    ∙ update-known (withOrdinary t m v) k w q
+    ∙ ap {B = Table} (λ (l : List Slot). record { ordinary = l; fork = t .fork }) (set-comm (t .ordinary) (m - 1) (k - 1) (slot v) (slot w) (λ e. d (omega arith)))
+    ∙ sym (update-known (withOrdinary t k w) m v p)
+    ∙ sym (ap (λ (u : Table). update u m v) (update-known t k w q))
 
 pub update-keeps : (t : Table) (m : ℕ) (v : Value) → known m ≡ true → (update t m v) .fork ≡ t .fork
 update-keeps t m v k = ap (λ (u : Table). u .fork) (update-known t m v k)

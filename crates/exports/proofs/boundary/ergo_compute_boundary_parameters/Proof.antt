@@ -42,8 +42,8 @@ use Rattle.extension.specs.declared.boundary.Computed.{Computed}
 use Rattle.lent.specs.declared.boundary.BoundaryAt.{BoundaryAt}
 use Rattle.wire.specs.Boundary.{questionOf}
 use Rattle.exports.specs.Reply.{reply, numbered}
-use Rattle.exports.specs.Calls.{computedInto, computedBy, boundaryOf}
-use Rattle.exports.proofs.BoundaryLaws.{boundary-is}
+use Rattle.exports.specs.Calls.{computedInto, computedBy, boundaryOf, RepliesInAnyOrder}
+use Rattle.exports.proofs.BoundaryLaws.{Promised, boundary-is}
 use Rattle.voting.proofs.tally.Entry as T
 use Rattle.lent.proofs.boundary.BoundaryAt as B
 use Rattle.lent.proofs.boundary.BoundaryAt.Laws as B′
@@ -104,9 +104,9 @@ module _ {M : Type 1} (𝓤 : URA M) (H : Heap 𝓤) (A : Atoms 𝓤) (mem : Mem
   question-of κ x a = exE 𝓤 _ (λ ws. snd∗ 𝓤 (sem 𝓤 H A (lasts question.ended (κ, tt) (x, tt) ws)) (fact 𝓤 (a ≡ questionOf (now x))))
 
   compute-of : (κ κ′ : Lft) (x : RefT (List Entry)) (y : RefT (List ℕ)) (a : BoundaryAt) (c : Computed)
-      → ent 𝓤 (ensured 𝓤 H A compute.ended (compute.clauses 𝓤 H A mem run) (κ, (κ′, tt)) (x, (y, (a, tt))) tt c) (fact 𝓤 (c ≡ computedBy a (now x) (now y)))
+      → ent 𝓤 (ensured 𝓤 H A compute.ended (compute.clauses 𝓤 H A mem run) (κ, (κ′, tt)) (x, (y, (a, tt))) tt c) (fact 𝓤 (Promised a (now x) (now y) c))
   unfolding computedBy
-  compute-of κ κ′ x y a c = exE 𝓤 _ (λ ws. snd∗ 𝓤 (sem 𝓤 H A (lasts compute.ended (κ, (κ′, tt)) (x, (y, (a, tt))) ws)) (fact 𝓤 (c ≡ computedBy a (now x) (now y))))
+  compute-of κ κ′ x y a c = exE 𝓤 _ (λ ws. snd∗ 𝓤 (sem 𝓤 H A (lasts compute.ended (κ, (κ′, tt)) (x, (y, (a, tt))) ws)) (fact 𝓤 (Promised a (now x) (now y) c)))
 
 module _ {M : Type 1} (𝓤 : URA M) (H : Heap 𝓤) (A : Atoms 𝓤) (W : Given 𝓤 H A) (mem : Memory → SProp 𝓤) (run : Routine → Fun 𝓤) (κ₀ κ₁ κ₂ κ₃ : Lft) (q₀ q₁ q₂ q₃ : Share)
     (x₀ : RefT (List Entry)) (x₁ x₂ x₃ : RefT (List ℕ)) where
@@ -132,7 +132,7 @@ module _ {M : Type 1} (𝓤 : URA M) (H : Heap 𝓤) (A : Atoms 𝓤) (W : Given
   abbrev Post : Val → SProp 𝓤
   Post = walkOf 𝓤 H A ergo.ended stayed (ergo.clauses 𝓤 H A mem run) .post bound
 
-  exits : (r : ℕ) (w : Val) (zs : List ℕ) → reply r zs ≡ numbered (computedInto (boundaryOf (now x₀) (now x₁) (now x₂)) (now x₃)) → length zs ≡ length (x₃ .now)
+  exits : (r : ℕ) (w : Val) (zs : List ℕ) → (reply r zs ≡ numbered (computedInto (boundaryOf (now x₀) (now x₁) (now x₂)) (now x₃))) × RepliesInAnyOrder (now x₀) (now x₁) (now x₂) (now x₃) (reply r zs) → length zs ≡ length (x₃ .now)
       → ent 𝓤 (⋆ 𝓤 H A ((‵ (flft κ₀ q₀) ⊛ ‵ (flft κ₁ q₁) ⊛ ‵ ftrue) ∷ ‵ (flft κ₂ q₂) ∷ (‵ (flft κ₃ q₃) ⊛ ‵ ftrue) ∷ ‵ (finally u8 (x₃ .name) zs) ∷ ‵ (u8 .own r (w ∷ [])) ∷ [])) (Post w)
   exits r w zs e l =
       qed W ((‵ (flft κ₀ q₀) ⊛ ‵ (flft κ₁ q₁) ⊛ ‵ ftrue) ∷ ‵ (flft κ₂ q₂) ∷ (‵ (flft κ₃ q₃) ⊛ ‵ ftrue) ∷ ‵ (finally u8 (x₃ .name) zs) ∷ ‵ (u8 .own r (w ∷ [])) ∷ []) ∵
@@ -189,7 +189,7 @@ module _ {M : Type 1} (𝓤 : URA M) (H : Heap 𝓤) (A : Atoms 𝓤) (W : Given
       -- [what the call is handed; the question's token; out's token and true; out's; _8; …]
       calls-at ! fm (Compute 𝓤 H A mem run) known₁ (to-compute a v) (and-then ! (load ! (from ! (stop !)) (look ! 18 refl)) (and-then ! (load ! (from ! (stop !)) (look ! 16 refl)) (and-then ! (load ! (from ! (stop !)) (look ! 4 refl)) (no-more !)))) (λ u.
       use1 W (later (some (λ (c : Computed). ((‵ (flft κ₀ q₀) ⊛ ‵ (flft κ₁ q₁) ⊛ ‵ ftrue) ⊛ ‵ (Z .own c (u ∷ []))) ⊛ raw (ensured 𝓤 H A compute.ended (compute.clauses 𝓤 H A mem run) (κ₀, (κ₁, tt)) (x₀, (x₁, (a, tt))) tt c)))) (id⊢ 𝓤 _) $ await ! tt $ pick ! (λ c.
-      split ! $ move ! (1 ∷ []) $ use1 W (raw (fact 𝓤 (c ≡ computedBy a (now x₀) (now x₁)))) (compute-of 𝓤 H A mem run κ₀ κ₁ x₀ x₁ a c) $ heard ! (c ≡ computedBy a (now x₀) (now x₁)) (λ ec. split ! $ move ! (1 ∷ []) $
+      split ! $ move ! (1 ∷ []) $ use1 W (raw (fact 𝓤 (Promised a (now x₀) (now x₁) c))) (compute-of 𝓤 H A mem run κ₀ κ₁ x₀ x₁ a c) $ heard ! (Promised a (now x₀) (now x₁) c) (λ ec. split ! $ move ! (1 ∷ []) $
       -- [what was computed; two tokens and true; the question's token; out's token and true; out's; _8; …]
       peeks ! Z (Is Z) (shows 𝓤 H A Z) c (u ∷ []) (λ is′.
       land ! (from ! (stop !)) (init ! 7 refl (LL.lawful C.the-type C′.the-laws 𝓤 H A W .typed c _ is′ .0)) $
@@ -204,7 +204,7 @@ module _ {M : Type 1} (𝓤 : URA M) (H : Heap 𝓤) (A : Atoms 𝓤) (W : Given
       land ! (from ! (stop !)) (init ! 22 refl (uint-lawful 𝓤 H A W w8 .typed r _ is″ .0)) $
       returns ! (look ! 22 refl) $ forget ! 6 refl $ forget ! 8 refl $ forget ! 10 refl $ forget ! 12 refl $ forget ! 14 refl $ forget ! 16 refl $ forget ! 18 refl $ forget ! 20 refl $ forget ! 22 refl $
       move ! (22 ∷ 23 ∷ []) $ free1 ! $ move ! (20 ∷ 21 ∷ []) $ free1 ! $ move ! (18 ∷ 19 ∷ []) $ free1 ! $ move ! (16 ∷ 17 ∷ []) $ free1 ! $ move ! (14 ∷ 15 ∷ []) $ free1 ! $ move ! (12 ∷ 13 ∷ []) $ free1 ! $ move ! (10 ∷ 11 ∷ []) $ free1 ! $ move ! (8 ∷ 9 ∷ []) $ free1 ! $ move ! (6 ∷ 7 ∷ []) $ free1 ! $ free0 ! $
-      keep ! (4 ∷ 5 ∷ 1 ∷ 2 ∷ 0 ∷ []) $ by ! (exits r w (zs .0) (boundary-is (now x₀) (now x₁) (now x₂) (now x₃) (zs .0) r a c ea ec ez) l))))))))))))))))))))))))
+      keep ! (4 ∷ 5 ∷ 1 ∷ 2 ∷ 0 ∷ []) $ by ! (exits r w (zs .0) (boundary-is (now x₀) (now x₁) (now x₂) (now x₃) (zs .0) r a c ea ez ec) l))))))))))))))))))))))))
 
 module _ {M : Type 1} (𝓤 : URA M) (H : Heap 𝓤) (A : Atoms 𝓤) (W : Given 𝓤 H A) (mem : Memory → SProp 𝓤) (run : Routine → Fun 𝓤) (𝓣 : Tables 𝓤 H) (known₀ : Triple 𝓤 (𝓣 .C #question) (Question 𝓤 H A mem run)) (known₁ : Triple 𝓤 (𝓣 .C #compute) (Compute 𝓤 H A mem run)) (known₂ : Triple 𝓤 (𝓣 .C #put) (Put 𝓤 H A mem run)) where
   ergo-walks : Walks 𝓤 H A ergo.ended stayed (WpFn 𝓤 H (𝓣 .C) (𝓣 .Λ) code.function) (ergo.clauses 𝓤 H A mem run)

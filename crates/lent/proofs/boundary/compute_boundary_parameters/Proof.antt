@@ -56,6 +56,7 @@ use Rattle.extension.specs.declared.boundary.Computed.{Computed}
 use Rattle.lent.specs.declared.boundary.BoundaryAt.{BoundaryAt}
 use Rattle.lent.specs.declared.boundary.Sweep.{Sweep}
 use Rattle.lent.specs.Sweep.{begunOf, sweptOf, sweepOf, finishedOf}
+use Rattle.extension.proofs.Laws.Order.{in-any-order}
 use Rattle.lent.proofs.Laws.Sweep.{sweep-here, sweep-end, swept-all}
 use Rattle.voting.proofs.tally.Entry as T
 use Rattle.voting.proofs.tally.Entry.Laws as T′
@@ -182,7 +183,7 @@ module _ {M : Type 1} (𝓤 : URA M) (H : Heap 𝓤) (A : Atoms 𝓤) (W : Given
   exits : (r : Computed) (v : Val) → r ≡ finishedOf (sweepOf s₀ ys) → ent 𝓤 (⋆ 𝓤 H A (‵ (flft κ q) ∷ ‵ (flft κ′ q′) ∷ ‵ (Z .own r (v ∷ [])) ∷ [])) (Post v)
   exits r v e =
       qed W (‵ (flft κ q) ∷ ‵ (flft κ′ q′) ∷ ‵ (Z .own r (v ∷ [])) ∷ []) ∵
-      suffices ! _ (ends-at 𝓤 H A compute.ended stayed (compute.clauses 𝓤 H A mem run) W bound v r (tt, (tt, (tt, tt))) (tt, (tt, (tt, tt)))) $ says ! (e ∙ swept-all a ys zs) $
+      suffices ! _ (ends-at 𝓤 H A compute.ended stayed (compute.clauses 𝓤 H A mem run) W bound v r (tt, (tt, (tt, tt))) (tt, (tt, (tt, tt)))) $ says ! (in-any-order (a .config) (a .height) (a .table) ys (a .vote) zs r (e ∙ swept-all a ys zs)) $
       nothing ! $ move ! (2 ∷ 0 ∷ []) $ join ! $ move ! (1 ∷ 0 ∷ []) $ join ! $ nothing ! $ nothing ! $ fjoin ! $ nothing ! $ fjoin ! $ nothing ! $ fjoin ! $
       move ! (1 ∷ 0 ∷ []) $ frame ! $ frame ! $ done !
 
