@@ -5,6 +5,7 @@
 mod door;
 mod exhaustive;
 mod long;
+mod orders;
 mod report;
 mod streams;
 mod windows;
@@ -24,6 +25,7 @@ fn main() -> ExitCode {
     let exhaustive = exhaustive::KINDS.iter().map(|(name, run)| print(name, run()));
     let random = KINDS.iter().chain([&LENT]).map(|kind| print(kind.name, run(kind, &mut Random::new(seed))));
     let mut reports: Vec<Report> = exhaustive.chain(random).collect();
+    reports.push(print("tallies in two orders", orders::run(&mut Random::new(seed))));
     reports.push(print("long lists", long::run(&mut Random::new(seed))));
     reports.push(print("lines over streams", streams::run(&mut Random::new(seed))));
     reports.push(print("windows, header by header", windows::header_by_header(&mut Random::new(seed))));

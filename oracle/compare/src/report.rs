@@ -103,6 +103,21 @@ impl Report {
         });
     }
 
+    /// Compares what the Rust answers to two inputs that differ in a tally's order: only 13 and 14 may stand for each other.
+    pub fn compare_orders(&mut self, inputs: &[Vec<u8>; 2], answers: &[Vec<u8>; 2]) {
+        let [one, other] = answers.each_ref().map(|answer| match answer[0] {
+            13 | 14 => [&[13], &answer[1..]].concat(),
+            _ => answer.clone(),
+        });
+        self.compared += 1;
+        self.count(one == other, || Difference {
+            input: format!("call 43 of {} and of {}", hex(&inputs[0]), hex(&inputs[1])),
+            size: inputs[0].len(),
+            rust: format!("{} and {}", hex(&answers[0]), hex(&answers[1])),
+            library: "not asked; the rules say that the two are the same".to_owned(),
+        });
+    }
+
     /// Compares texts for an input of records, line by line.
     pub fn compare_texts(&mut self, input: &[u8], rust: &[u8], library: &[u8]) {
         let line =

@@ -85,17 +85,47 @@ fn entries(random: &mut Random, length: u32) -> Tally {
     tally
 }
 
-/// Settings, height, table, flag of the vote 120; a count and as many entries; an update.
 pub fn lent_boundaries(random: &mut Random) -> Vec<Asked> {
-    let (mut input, tally) = at_boundary(random, entries);
-    input.push(random.one_in(2).into());
+    let (question, tally) = at_boundary(random, entries);
+    let (vote, update) = (random.one_in(2), proposed(random));
+    vec![(0x43, lent_boundary(&question, vote, &tally, &update))]
+}
+
+/// The input of call 43: settings, height, table, flag of the vote 120; a count and as many entries; an update.
+fn lent_boundary(question: &[u8], vote: bool, tally: &[(i8, u32)], update: &[u8]) -> Vec<u8> {
+    let mut input = question.to_vec();
+    input.push(vote.into());
     put_count(&mut input, tally.len());
-    for (id, count) in tally {
+    for &(id, count) in tally {
         input.push(id as u8);
         put_u32(&mut input, count);
     }
-    input.extend(proposed(random));
-    vec![(0x43, input)]
+    input.extend(update);
+    input
+}
+
+/// Entries of which none repeats or contradicts another; most often for parameters and the fork alone, now and then some thirty.
+fn consistent_entries(random: &mut Random, length: u32) -> Tally {
+    let mut tally = Tally::new();
+    let unknown = random.one_in(4);
+    for _ in 0..random.pick(&[1, 2, 2, 3, 12]) {
+        for (id, count) in entries(random, length) {
+            let known = id == 120 || (1..=9).contains(&id.unsigned_abs());
+            if (known || unknown) && tally.iter().all(|&(other, _)| id != other && id != other.wrapping_neg()) {
+                tally.push((id, count));
+            }
+        }
+    }
+    tally
+}
+
+/// Two inputs of call 43 that differ in the order of such entries.
+pub fn in_two_orders(random: &mut Random) -> [Vec<u8>; 2] {
+    let (question, tally) = at_boundary(random, consistent_entries);
+    let (vote, update) = (random.one_in(2), proposed(random));
+    let mut other = tally.clone();
+    (1..other.len()).for_each(|i| other.swap(i, random.below(i + 1)));
+    [tally, other].map(|tally| lent_boundary(&question, vote, &tally, &update))
 }
 
 /// An update: none, one of rules that may be disabled, or any.
