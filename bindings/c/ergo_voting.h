@@ -237,7 +237,8 @@ int64_t ergo_window_put(uint64_t window, uint16_t *cells, size_t cells_len, cons
 /* The boundary, and what is checked against the table that it computes. */
 
 /* The table after a boundary and the activated update, ERGO_COMPUTED_SIZE bytes: 22, 7, 8, 17, 18, and then 19, 20, 13,
-   14 as they are met; 21. The sections are those of the proposed update, empty unless it is activated. */
+   14 as they are met; 21. The sections are those of the proposed update, empty unless it is activated. If no two entries
+   have ids that are equal or negations of each other, their order decides nothing but which of 13 and 14 is met. */
 uint8_t ergo_compute_boundary_parameters(const ergo_entry *tally, size_t tally_len, const uint8_t *proposed_update,
                                          size_t proposed_update_len, const uint8_t *question, size_t question_len,
                                          uint8_t *out, size_t out_len);

@@ -127,8 +127,8 @@ static void windows_that_are_refused(void) {
 }
 
 static void boundary(void) {
-    const ergo_entry tally[] = {{1, 513}, {-2, 513}, {3, 512}};
-    uint8_t question[ERGO_QUESTION_SIZE], out[ERGO_COMPUTED_SIZE];
+    const ergo_entry tally[] = {{1, 513}, {-2, 513}, {3, 512}}, reversed[] = {{3, 512}, {-2, 513}, {1, 513}};
+    uint8_t question[ERGO_QUESTION_SIZE], out[ERGO_COMPUTED_SIZE], other[ERGO_COMPUTED_SIZE];
     int32_t value;
     ergo_question(question, settings, 2048, table, true);
     assert(ergo_compute_boundary_parameters(tally, 3, NULL, 0, question, sizeof question, out, sizeof out) == 0);
@@ -136,6 +136,8 @@ static void boundary(void) {
     assert(ergo_table_get(out + ERGO_COMPUTED_TABLE_AT, 2, &value) && value == 350);
     assert(ergo_table_get(out + ERGO_COMPUTED_TABLE_AT, 122, &value) && value == 2048);
     assert(ergo_number(out + ERGO_COMPUTED_UPDATE_AT + ERGO_UPDATE_RULES_AT + ERGO_SECTION_COUNT_AT) == 0);
+    assert(ergo_compute_boundary_parameters(reversed, 3, NULL, 0, question, sizeof question, other, sizeof other) == 0);
+    assert(memcmp(out, other, sizeof out) == 0);
 }
 
 static void states(void) {

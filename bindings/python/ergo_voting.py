@@ -594,7 +594,8 @@ def compute_boundary_parameters(
     tally: Sequence[Entry], proposed_update: bytes, settings: Settings, height: int, table: Table, votes_fork: bool
 ) -> Computed:
     """The boundary at a height, from the entries of the epoch before (Tally.entries), the bytes of the proposed update, the old
-    table, and whether the boundary header votes for the fork: 22, 7, 8, 17, 18, and then 19, 20, 13, 14 as they are met."""
+    table, and whether the boundary header votes for the fork: 22, 7, 8, 17, 18, and then 19, 20, 13, 14 as they are met. If no two
+    entries have ids that are equal or negations of each other, their order decides nothing but which of 13 and 14 is met."""
     question = settings.to_bytes() + struct.pack(">I", _in_width("u32", height)) + table.to_bytes() + bytes((bool(votes_fork),))
     out = _filled(COMPUTED_SIZE, "ergo_compute_boundary_parameters", tally, proposed_update, question)
     return Computed(Table.from_bytes(out[:TABLE_SIZE]), _update(proposed_update, out[TABLE_SIZE:]))

@@ -6,7 +6,7 @@ import random
 import unittest
 from array import array
 from dataclasses import replace
-from itertools import accumulate
+from itertools import accumulate, permutations
 from pathlib import Path
 
 from ergo_voting import (
@@ -286,6 +286,23 @@ class Boundary(Case):
     def test_a_list_may_be_long(self):
         computed = self.boundary([Entry(1, 512)] * 200_000 + [Entry(2, 513)])
         self.assertEqual(computed.table, MAINNET.with_entry(2, 370))
+
+    def test_the_order_of_entries_does_not_matter(self):
+        old = with_entries(MAINNET, {121: 28_979, 122: 1_024})
+        new = with_entries(old, {1: 1_275_000, 3: 519_046, 8: 101, 123: 2})
+        for tally in permutations((Entry(1, 513), Entry(120, 513), Entry(-3, 513), Entry(8, 1_024))):
+            computed = self.boundary(tally, UPDATE, 1_024 + 64 * 1_024, old)
+            self.assertEqual((computed.table, computed.activated), (new, Update([215], [])))
+
+    def test_the_order_of_entries_that_contradict_another_matters(self):
+        old = with_entries(Table(), {1: 2_500_000, 123: 1})
+        down, up = Entry(-1, 1), Entry(1, 1)
+        ask = lambda *tally: self.boundary(tally, height=1, table=old, settings=Settings(1, 1, 1, 0))
+        self.assertEqual(ask(down, up).table, old)
+        self.assertEqual(ask(up, down).table, old.with_entry(1, 2_475_000))
+        unknown, absent = Entry(10, 1), Entry(2, 1)
+        self.refused(Refusal.UNKNOWN_PARAMETER, lambda: ask(unknown, absent))
+        self.refused(Refusal.ABSENT_PARAMETER, lambda: ask(absent, unknown))
 
     def test_a_fork_vote_opens_a_round(self):
         self.assertEqual(self.boundary(votes_fork=True).table, with_entries(MAINNET, {121: 0, 122: 2_048}))

@@ -20,7 +20,8 @@ pub struct Computed<'a> {
 
 /// The boundary at a height, from the tally of the epoch before, the bytes of the proposed update, the old table, and whether the
 /// boundary header votes for the fork: 22, 7, 8, 17, 18, and then 19, 20, 13, 14 as they are met. [`crate::Tally::entries`] gives
-/// the entries of a tally; a list may have any length.
+/// the entries of a tally; a list may have any length. If no two entries have ids that are equal or negations of each other, their
+/// order decides nothing but which of 13 and 14 is met.
 pub fn compute_boundary_parameters<'a>(
     tally: &[Entry],
     proposed_update: &'a [u8],

@@ -73,6 +73,44 @@ fn a_list_may_be_long() {
     assert_eq!(computed.table, with(mainnet(), &[(2, Some(370))]));
 }
 
+fn orders(entries: &[Entry]) -> Vec<Vec<Entry>> {
+    if entries.is_empty() {
+        return vec![Vec::new()];
+    }
+    let begun = |first: usize| {
+        let mut rest = entries.to_vec();
+        let entry = rest.remove(first);
+        orders(&rest).into_iter().map(move |order| [vec![entry], order].concat())
+    };
+    (0..entries.len()).flat_map(begun).collect()
+}
+
+#[test]
+fn the_order_of_entries_does_not_matter() {
+    let old = with(mainnet(), &[(121, Some(28_979)), (122, Some(1_024))]);
+    let new = with(old, &[(1, Some(1_275_000)), (3, Some(519_046)), (8, Some(101)), (123, Some(2))]);
+    let orders = orders(&[up(1), up(120), up(-3), Entry { id: 8, count: 1_024 }]);
+    assert_eq!(orders.len(), 24);
+    for tally in orders {
+        let computed = boundary(&tally, &UPDATE, 1_024 + 64 * 1_024, &old).expect("a table");
+        assert_eq!((computed.table, computed.activated.rules()), (new, vec![215]));
+    }
+}
+
+#[test]
+fn the_order_of_entries_that_contradict_another_matters() {
+    let settings = Settings { voting_length: 1, soft_fork_epochs: 1, activation_epochs: 1, version2_activation_height: 0 };
+    let old = with(Table::default(), &[(1, Some(2_500_000)), (123, Some(1))]);
+    let ask = |ids: [i8; 2]| {
+        compute_boundary_parameters(&ids.map(|id| Entry { id, count: 1 }), &[], &settings, 1, &old, false)
+            .map(|computed| computed.table)
+    };
+    assert_eq!(ask([-1, 1]), Ok(old));
+    assert_eq!(ask([1, -1]), Ok(with(old, &[(1, Some(2_475_000))])));
+    assert_eq!(ask([10, 2]), Err(Refusal::UnknownParameter));
+    assert_eq!(ask([2, 10]), Err(Refusal::AbsentParameter));
+}
+
 #[test]
 fn a_fork_vote_opens_a_round() {
     let settings = Settings::of(Network::Mainnet);
