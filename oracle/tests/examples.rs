@@ -1,6 +1,6 @@
-//! Document 01's examples at the edges, and some answers of the replay.
+//! Document 01's examples at the edges, those of a tally's order, and some answers of the replay.
 
-use chain::voting::ValidationSettingsUpdate;
+use chain::voting::{ValidationSettingsUpdate, VotingConfig};
 use ergo_lib::chain::parameters::Parameters;
 use oracle::refusal::Refusal;
 use oracle::replay::{open, open_mainnet, replay_stream};
@@ -49,6 +49,17 @@ fn steps() {
     assert_eq!(step(1, 2_500_000), Some(2_500_000));
     assert_eq!(step(3, 524_288), Some(529_530));
     assert_eq!(step(-3, 16_385), Some(16_222));
+}
+
+/// docs/RULES.md, "In another order": where it matters.
+#[test]
+fn order_of_entries() {
+    let settings = VotingConfig { voting_length: 1, soft_fork_epochs: 1, activation_epochs: 1, version2_activation_height: 0 };
+    let old = table(&[(1, 2_500_000), (123, 1)]);
+    let ask = |ids: [i8; 2]| rules::boundary(&settings, 1, &old, &ids.map(|id| (id, 1)), false, &[]);
+    let first = |ids| ask(ids).map(|(new, _)| to_map(&new)[&1]);
+    assert_eq!([first([-1, 1]), first([1, -1])], [Ok(2_500_000), Ok(2_475_000)]);
+    assert_eq!([number(ask([10, 2])), number(ask([2, 10]))], [13, 14]);
 }
 
 #[test]
