@@ -104,7 +104,7 @@ fn lent_boundary(question: &[u8], vote: bool, tally: &[(i8, u32)], update: &[u8]
     input
 }
 
-/// Entries of which none repeats or contradicts another; most often for parameters and the fork alone, now and then some thirty.
+/// Entries of which none repeats or contradicts another: up to some 25, most often for parameters and the fork alone.
 fn consistent_entries(random: &mut Random, length: u32) -> Tally {
     let mut tally = Tally::new();
     let unknown = random.one_in(4);
