@@ -2,3 +2,5 @@ pub mod Record
 pub mod Headers
 pub mod Replay
 pub mod Rounds
+pub mod Steps
+pub mod Mainnet

@@ -18,12 +18,12 @@ use Rattle.voting.specs.declared.fork.Forked.{Forked}
 use Rattle.voting.specs.Common.{eqZ, count, first}
 use Rattle.voting.specs.Settings.{votingLength, settings, forkLimit, softForkApproved, settingsLarge}
 use Rattle.voting.specs.Header.{votesIn, negation, ordinaryVote, fault, faultIn, checkVotes, checkHeaderVotes, votesFor, AllLegal}
-use Rattle.voting.specs.Tally.{headers, slotEntry, seeded, entry, entries, firstCount}
+use Rattle.voting.specs.Tally.{headers, slotEntry, seeded, entry, entries, firstCount, firstVotes, countedFor}
 use Rattle.voting.specs.ForkCheck.{epochsAfter, between, barred, checkRound, forkRefusal}
 use Rattle.voting.specs.ForkPart.{forkTotal, roundSteps, roundBy, roundFrom, roundAt, storedOr, votesAfter, startAfter, risen, forced, versionAfter, forkAfter}
 use Rattle.voting.proofs.Laws.Header.{first-zero}
 use Rattle.voting.proofs.Laws.Fork.{allowed}
-use Rattle.rounds.specs.Epochs.{firstVotes, boundaryVotes, counted}
+use Rattle.rounds.specs.Epochs.{boundaryVotes, counted}
 use Rattle.rounds.specs.Book.{idle, since}
 use Rattle.rounds.specs.Replay.{Answer, refused, accepted, Replay, run, Lawful}
 use Rattle.rounds.specs.Claim.{Sound, Opening, entriesFor, Promise}
@@ -153,7 +153,7 @@ unfolding settingsLarge
 small-sound = record { length-positive = lit< tt; votes-positive = lit< tt; moderate = refl }
 
 small-opening : Opening small (replay small) start 1 []
-unfolding seeded entries entry firstCount eqZ counted boundaryVotes firstVotes headers
+unfolding seeded entries entry firstCount eqZ counted countedFor boundaryVotes firstVotes headers
 small-opening = record { multiple = refl; version-small = omega arith; table = refl; brought = refl; few = omega arith }
 
 small-promise : (rs : List Record) → Promise small (replay small) start 1 [] rs

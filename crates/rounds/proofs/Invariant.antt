@@ -11,6 +11,7 @@ use lib.Dec.{ltb, eqb}
 use Rattle.voting.proofs.Laws.Tests.{by-test, both}
 use Rattle.voting.specs.declared.settings.VotingConfig.{VotingConfig}
 use Rattle.voting.specs.Settings.{votingLength, voteEpochs, activationEpochs, version2Height, forkLimit}
+use Rattle.voting.specs.Tally.{countedFor}
 use Rattle.rounds.specs.Epochs.{boundaryVotes, counted, forcedVersion}
 use Rattle.rounds.specs.Book.{Round, idle, since, bookOpen}
 use Rattle.rounds.specs.Claim.{Sound}
@@ -36,7 +37,7 @@ unfolding forcedVersion
 force-low g h v B p q = by-test (eqb h (version2Height g) && eqb v 1) (λ e. simp e (omega arith)) (λ e. simp e p)
 
 pub quiet-votes : (xs : List ℕ) → boundaryVotes xs ≡ false → counted xs ≡ 0
-unfolding counted
+unfolding counted countedFor boundaryVotes
 quiet-votes xs e = simp e
 
 -- opened at h, or none is open after it

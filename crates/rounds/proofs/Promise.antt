@@ -15,7 +15,7 @@ use Rattle.voting.specs.declared.settings.VotingConfig.{VotingConfig}
 use Rattle.voting.specs.declared.table.Value.the-variants.{Absent, Number}
 use Rattle.voting.specs.declared.table.Fork.{Fork}
 use Rattle.voting.specs.Settings.{votingLength, voteEpochs, activationEpochs, forkLimit}
-use Rattle.rounds.specs.Epochs.{boundaryVotes, counted, forcedVersion}
+use Rattle.rounds.specs.Epochs.{boundaryVotes, counted, lastOf, forcedVersion}
 use Rattle.rounds.specs.Book.{Round, idle, since, Book, epochsSince, bookAdd, bookRise, bookClose, bookOpen, bookTake, bookStep, bookRun}
 use Rattle.rounds.specs.Replay.{Answer, refused, accepted, Replay, after, call, run, calls, add-epoch, epochs, Lawful}
 use Rattle.rounds.specs.Claim.{Sound, Opening, firstBook, entriesFor, total, won, span, Boundary, Life, Promise}
@@ -178,11 +178,6 @@ fresh g sound vote (since S n) v h c w o e = fresh-since g sound vote S n v h c 
 later-start : (S : ℕ) (r : Round) (v : ℕ) → Later S r → entriesFor r v .start ≡ Number (pos S) → ⊥
 later-start S idle v k e = absent-number (pos S) e
 later-start S (since s n) v k e = let q = number s S e in omega arith
-
--- the last of the epochs from e on
-unfoldable lastOf : List ℕ → List (List ℕ) → List ℕ
-lastOf e [] = e
-lastOf e (x ∷ es) = lastOf x es
 
 before-is : (g : VotingConfig) (es : List (List ℕ)) (b : Book) (h : ℕ) → bookEpochs g b h es .before ≡ lastOf (b .before) es
 unfolding bookEpochs lastOf bookTake

@@ -1,6 +1,6 @@
--- What several definitions of this crate use: tests of integers, counting, and refusals in order.
+-- What several definitions of this crate use: tests of integers, counting, refusals in order, and bytes.
 -- Assumes nothing.
-use Prim.Native.Nat.{ℕ, zero, suc, _+_}
+use Prim.Native.Nat.{ℕ, zero, suc, _+_, _<_}
 use mathlib.Core.Bool.{Bool, false, cond}
 use mathlib.Core.List.{List, [], _∷_}
 use lib.Dec.{eqb}
@@ -27,6 +27,10 @@ first (suc n) m = suc n
 abbrev pub Each : {A : Type 0} → (A → Type 0) → List A → Type 0
 Each P [] = Unit {0}
 Each P (x ∷ xs) = P x × Each P xs
+
+-- every number of a list is a byte
+abbrev pub Bytes : List ℕ → Type 0
+Bytes = Each (λ b. b < 256)
 
 -- a statement of every two elements of a list, the earlier one first
 abbrev pub Pairwise : {A : Type 0} → (A → A → Type 0) → List A → Type 0

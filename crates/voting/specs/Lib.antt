@@ -8,3 +8,4 @@ pub mod ForkPart
 pub mod Ordinary
 pub mod Boundary
 pub mod Order
+pub mod Steps

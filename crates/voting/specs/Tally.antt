@@ -1,7 +1,7 @@
 -- The tally of the votes of an epoch. docs/RULES.md, "Tally".
 -- Assumes nothing.
 use Prim.Native.Nat.{ℕ, suc, _+_, _*_, _/_}
-use mathlib.Core.Bool.{Bool, cond}
+use mathlib.Core.Bool.{Bool, false, cond}
 use mathlib.Core.List.{List, [], _∷_}
 use lib.Dec.{ltb, eqb}
 use lib.IntN.{ℤ, pos}
@@ -12,6 +12,7 @@ use Rattle.voting.specs.declared.tally.Entry.{Entry}
 use Rattle.voting.specs.declared.tally.Tally.{Tally}
 use Rattle.voting.specs.declared.tally.Tallied.{Tallied}
 use Rattle.voting.specs.Common.{eqZ, count}
+use Rattle.voting.specs.Header.{votesFor}
 
 -- the vote bytes of the headers in a string of bytes, three a header; one or two bytes left over are none
 unfoldable pub headers : List ℕ → List (List ℕ)
@@ -61,3 +62,12 @@ entries y = entry (y .first) (entry (y .second) (entry (y .third) []))
 unfoldable pub firstCount : ℤ → List Entry → ℕ
 firstCount v [] = 0
 firstCount v (e ∷ es) = cond (eqZ (e .id) v) (e .count) (firstCount v es)
+
+-- the first of these headers votes b
+unfoldable pub firstVotes : ℕ → List (List ℕ) → Bool
+firstVotes b [] = false
+firstVotes b (h ∷ hs) = votesFor b h
+
+-- the votes b that are counted in an epoch, by its vote bytes: the headers that vote b if the boundary header does, else none
+unfoldable pub countedFor : ℕ → List ℕ → ℕ
+countedFor b bytes = cond (firstVotes b (headers bytes)) (count (votesFor b) (headers bytes)) 0

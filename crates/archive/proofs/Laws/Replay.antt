@@ -15,12 +15,12 @@ use Rattle.voting.specs.declared.table.Table.{Table}
 use Rattle.voting.specs.Common.{first}
 use Rattle.voting.specs.Settings.{votingLength, mainnet}
 use Rattle.voting.specs.Header.{softForkVote, votesFor}
-use Rattle.voting.specs.Tally.{headers, noTally, entries, tallyVotesSeeded}
+use Rattle.voting.specs.Tally.{headers, noTally, entries, tallyVotesSeeded, firstVotes}
 use Rattle.voting.specs.ForkCheck.{checkForkVote, forkRefusal}
 use Rattle.voting.specs.declared.tally.Tallied.{Tallied}
 use Rattle.voting.proofs.Laws.Header.{first-pass, first-stop, first-zero}
 use Rattle.voting.proofs.Laws.Tests.{both}
-use Rattle.rounds.specs.Epochs.{firstVotes, boundaryVotes}
+use Rattle.rounds.specs.Epochs.{boundaryVotes}
 use Rattle.extension.specs.declared.boundary.Computed.{Computed}
 use Rattle.extension.specs.declared.parameters.Matched.{Matched}
 use Rattle.extension.specs.declared.parameters.Parameters.{Parameters}

@@ -21,7 +21,7 @@ use Rattle.voting.specs.Common.{eqZ}
 use Rattle.voting.specs.Settings.{votingLength, voteEpochs, activationEpochs, mainnet, settingsLarge}
 use Rattle.voting.specs.Table.{lookup, forkEntries}
 use Rattle.voting.specs.Header.{softForkVote, checkHeaderVotes, votesFor, AllLegal}
-use Rattle.voting.specs.Tally.{headers, noTally, seeded, seeds, tallyVotesSeeded, entry, entries, firstCount}
+use Rattle.voting.specs.Tally.{headers, noTally, seeded, seeds, tallyVotesSeeded, entry, entries, firstCount, firstVotes, countedFor}
 use Rattle.voting.specs.ForkCheck.{checkRound, checkForkVote, forkRefusal}
 use Rattle.voting.specs.ForkPart.{noRound, roundRefused, roundFrom, roundAt, forkAfter}
 use Rattle.voting.specs.Boundary.{boundaryOf}
@@ -30,7 +30,7 @@ use Rattle.voting.proofs.Laws.Header.{first-zero}
 use Rattle.voting.proofs.Laws.Tests.{both, neither}
 use Rattle.voting.proofs.Laws.Tally.{whole-threes}
 use Rattle.voting.proofs.Laws.Boundary.{passed}
-use Rattle.rounds.specs.Epochs.{firstVotes, boundaryVotes, counted}
+use Rattle.rounds.specs.Epochs.{boundaryVotes, counted}
 use Rattle.rounds.specs.Claim.{Opening}
 use Rattle.rounds.proofs.Mainnet.{mainnet-promise}
 use Rattle.rounds.specs.Replay as Interface
@@ -304,7 +304,7 @@ goes-on g s e (xs ∷ calls) =
 
 opening : (s : Replay) (version : ℕ) → s .settings ≡ mainnet → s .next % votingLength mainnet ≡ 0 → s .tally ≡ noTally → version ≤ 255 → s .table .fork ≡ forkEntries Absent Absent (Number (pos version))
     → Opening mainnet (interface mainnet) (core s) version []
-unfolding mainnet counted boundaryVotes firstVotes headers firstCount entries entry eqZ
+unfolding mainnet counted countedFor firstVotes headers firstCount entries entry eqZ
 opening s version e m y v f =
     record { multiple = m; version-small = v; table = f; brought = ap (λ (z : Tally). firstCount (pos softForkVote) (entries z)) y ∙ no-votes; few = none }
   where

@@ -13,7 +13,7 @@ use borrow.Author.Tests.{ltb-true, ltb-false, eqb-true, eqb-false, lt-ltb, le-lt
 use Rattle.codec.specs.Refusal.{tooManyVotes, repeatedVote, contradictoryVote}
 use Rattle.codec.specs.Signed.{modulo, bitsOf, signedOf, wrapped}
 use Rattle.codec.proofs.Laws.Signed.{signed-back}
-use Rattle.voting.specs.Common.{eqZ, count, first, Each}
+use Rattle.voting.specs.Common.{eqZ, count, first, Each, Bytes}
 use Rattle.voting.proofs.Laws.Tests.{eqb-comm}
 use Rattle.voting.proofs.Laws.Integers.{eqZ-same, ne-eqZ, eqZ-comm}
 use Rattle.voting.specs.Header.{softForkVote, votesIn, negation, ordinaryVote, fault, faultIn, checkVotes, checkHeaderVotes, votesFor}
@@ -51,10 +51,6 @@ small-id v b h e = go (ltb b 128) (e ∙ ap (λ (t : Bool). cond t (pos v) (negs
 pub alike-small : (v : ℕ) → v < 128 → (bs : List ℕ) → Alike v bs
 alike-small v h [] = tt
 alike-small v h (b ∷ bs) = (same-id v b (small-id v b h), alike-small v h bs)
-
--- every number is a byte
-abbrev pub Bytes : List ℕ → Type 0
-Bytes = Each (λ b. b < 256)
 
 pub alike-bytes : (v : ℕ) → v < 256 → (bs : List ℕ) → Bytes bs → Alike v bs
 alike-bytes v h = each (λ b. b < 256) (λ b. eqZ (signedOf 8 b) (signedOf 8 v) ≡ eqb v b)

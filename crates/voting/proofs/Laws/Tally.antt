@@ -20,10 +20,9 @@ use Rattle.voting.specs.declared.tally.Tally.{Tally}
 use Rattle.voting.specs.declared.tally.Tallied.{Tallied}
 use Rattle.voting.specs.Common.{eqZ, count}
 use Rattle.voting.specs.Header.{softForkVote, votesFor, AllLegal}
-use Rattle.voting.specs.Tally.{headers, whole, noEntry, noTally, slotEntry, seeded, seeds, tallyVotesSeeded, entry, entries, firstCount}
+use Rattle.voting.specs.Tally.{headers, whole, noEntry, noTally, slotEntry, seeded, seeds, tallyVotesSeeded, entry, entries, firstCount, firstVotes, countedFor}
 use Rattle.voting.proofs.Laws.Integers.{eqZ-true, ne-eqZ, is-number}
-use Rattle.voting.proofs.Laws.Header.{small-id, legal-once}
-pub use Rattle.voting.proofs.Laws.Header.{Alike, Bytes, alike-small, alike-bytes}
+use Rattle.voting.proofs.Laws.Header.{Alike, small-id, legal-once}
 
 -- Counts
 pub count-most : {A : Type 0} (p : A → Bool) (xs : List A) → count p xs ≤ length xs
@@ -193,12 +192,7 @@ among false true false n = refl
 among false false true n = refl
 among false false false n = refl
 
--- the headers that vote v, if the first does
-abbrev votedFrom : ℕ → List (List ℕ) → ℕ
-votedFrom v [] = 0
-votedFrom v (h ∷ hs) = cond (votesFor v h) (count (votesFor v) (h ∷ hs)) 0
-
-voted-more : (v : ℕ) (h : List ℕ) (hs : List (List ℕ)) → cond (votesFor v h) (suc (count (votesFor v) hs)) 0 ≡ votedFrom v (h ∷ hs)
+voted-more : (v : ℕ) (h : List ℕ) (hs : List (List ℕ)) → cond (votesFor v h) (suc (count (votesFor v) hs)) 0 ≡ cond (votesFor v h) (count (votesFor v) (h ∷ hs)) 0
 unfolding count
 voted-more v h hs = go (votesFor v h)
   where
@@ -220,24 +214,18 @@ first-slots v n a b c later k =
     among (eqb v a) (eqb v b) (eqb v c) (suc (count (eqb v) later))
 
 -- no headers, no entry
-pub tally-none : (v : ℕ) (bs : List ℕ) → headers bs ≡ [] → firstCount (signedOf 8 v) (entries (seeded (whole bs))) ≡ 0
-unfolding headers whole seeded entries entry firstCount eqZ
-tally-none v [] e = refl
-tally-none v (a ∷ []) e = refl
-tally-none v (a ∷ b ∷ []) e = refl
-tally-none v (a ∷ b ∷ c ∷ bs) e = absurd (let z : _≡_ {A = ℕ} 0 1 = cc in omega arith)
+none-counted : (v : ℕ) → firstCount (signedOf 8 v) (entries noTally) ≡ 0
+unfolding entries entry firstCount eqZ
+none-counted v = refl
 
-tally-whole : (v : ℕ) → (v ≡ 0 → ⊥) → (bs : List ℕ) → Alike v bs → AllLegal (headers bs) → firstCount (signedOf 8 v) (entries (seeded (whole bs))) ≡ votedFrom v (headers bs)
-unfolding headers
-tally-whole v n [] k l = tally-none v [] refl
-tally-whole v n (a ∷ []) k l = tally-none v (a ∷ []) refl
-tally-whole v n (a ∷ b ∷ []) k l = tally-none v (a ∷ b ∷ []) refl
-tally-whole v n (a ∷ b ∷ c ∷ bs) k l =
-    ap (λ (s : List ℕ). firstCount (signedOf 8 v) (entries (seeded s))) (whole-cons a b c bs) ∙
+-- the first entry of a vote in the tally of an epoch of legal headers has what is counted for that vote
+pub tally-counts : (v : ℕ) → (v ≡ 0 → ⊥) → (bs : List ℕ) → whole bs ≡ bs → Alike v bs → AllLegal (headers bs) → firstCount (signedOf 8 v) (entries (seeded bs)) ≡ countedFor v bs
+unfolding headers seeded countedFor firstVotes
+tally-counts v n [] w k l = none-counted v
+tally-counts v n (a ∷ []) w k l = none-counted v
+tally-counts v n (a ∷ b ∷ []) w k l = none-counted v
+tally-counts v n (a ∷ b ∷ c ∷ bs) w k l =
+    ap (λ (s : List ℕ). firstCount (signedOf 8 v) (entries (seeded s))) (sym w ∙ whole-cons a b c bs) ∙
     first-slots v n a b c (whole bs) (k .0, (k .1 .0, (k .1 .1 .0, tt))) ∙
     ap (λ (m : ℕ). cond (votesFor v (a ∷ b ∷ c ∷ [])) (suc m) 0) (votes-headers v n bs (l .1)) ∙
     voted-more v (a ∷ b ∷ c ∷ []) (headers bs)
-
--- the first entry of a vote in the tally of legal headers
-pub tally-count : (v : ℕ) → (v ≡ 0 → ⊥) → (h : List ℕ) (hs : List (List ℕ)) (bs : List ℕ) → headers bs ≡ h ∷ hs → Alike v bs → AllLegal (h ∷ hs) → firstCount (signedOf 8 v) (entries (seeded (whole bs))) ≡ cond (votesFor v h) (count (votesFor v) (h ∷ hs)) 0
-tally-count v n h hs bs e k l = tally-whole v n bs k (subst AllLegal (sym e) l) ∙ ap (votedFrom v) e
