@@ -24,6 +24,8 @@ ghost use Rattle.rounds.specs.Epochs.{boundaryVotes};
 ghost use Rattle.archive.specs.Headers.{checkForkVotes};
 ghost use Rattle.archive.specs.Replay.{refuses, onward, afterMatch, afterBoundary, heightRefusal, earlyRefusal, onParts, replayOf, Exhausted, LeastOfRecord, verdictNumber, verdictId, mayOpen, openOf};
 ghost use Rattle.archive.specs.Rounds.{RoundsKept};
+ghost use Rattle.archive.specs.Steps.{StepsKept};
+ghost use Rattle.archive.specs.Mainnet.{MainnetSteps};
 
 // No epoch reaches this height.
 const HEIGHT_LIMIT: u32 = 0x8000_0000;
@@ -59,6 +61,8 @@ pub struct Opened {
 pub fn open(height: u32, table: Table) -> Opened
     ensures { λ r. ⌜ r ≡ openOf height table ⌝ }
     ensures rounds { λ r. ⌜ RoundsKept table r ⌝ }
+    ensures steps { λ r. ⌜ StepsKept r ⌝ }
+    ensures mainnet_steps { λ r. ⌜ MainnetSteps r ⌝ }
 {
     if may_open(height) {
         return Opened {

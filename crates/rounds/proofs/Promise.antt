@@ -12,7 +12,7 @@ use lib.Dec.{leb, ltb, eqb}
 use lib.IntN.{pos}
 use lib.ListN.{length}
 use Rattle.voting.specs.declared.settings.VotingConfig.{VotingConfig}
-use Rattle.voting.specs.declared.table.Value.the-variants.{Absent, Number}
+use Rattle.voting.specs.declared.table.Value.the-variants.{Number}
 use Rattle.voting.specs.declared.table.Fork.{Fork}
 use Rattle.voting.specs.Settings.{votingLength, voteEpochs, activationEpochs, forkLimit}
 use Rattle.rounds.specs.Epochs.{boundaryVotes, counted, lastOf, forcedVersion}

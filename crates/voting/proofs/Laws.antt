@@ -1,5 +1,6 @@
 pub mod Tests
 pub mod Integers
+pub mod Each
 pub mod Header
 pub mod Tally
 pub mod Settings
@@ -10,4 +11,6 @@ pub mod Ordinary
 pub mod Fork
 pub mod Boundary
 pub mod Order
+pub mod Seeded
+pub mod Steps
 pub mod Refusals

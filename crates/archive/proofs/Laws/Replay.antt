@@ -3,7 +3,7 @@
 use mathlib.Core.Path.{_≡_, refl, sym, ap, _∙_}
 use mathlib.Core.Bool.{Bool, true, false, cond, _&&_}
 use mathlib.Core.List.{List, [], _∷_}
-use Prim.Native.Nat.{ℕ, zero, suc, _+_, _-_, _%_, _^_, _≤_, _<_}
+use Prim.Native.Nat.{ℕ, zero, suc, _+_, _-_, _/_, _%_, _^_, _≤_, _<_}
 use native.Mathlib.Omega.{arith}
 use borrow.Author.Tests.{eq-eqb, ne-eqb, eqb-true, leb-true}
 use lib.Dec.{ltb, leb, eqb}
@@ -34,11 +34,15 @@ use Rattle.archive.specs.declared.record.RecordAt.the-variants.{Whole, S
 use Rattle.archive.specs.declared.replay.Replay.{Replay}
 use Rattle.archive.specs.declared.replay.Verdict.the-variants.{Accepted, Mismatch}
 use Rattle.archive.specs.declared.replay.Replayed.{Replayed}
+use Rattle.archive.specs.declared.replay.Opened.{Opened}
 use Rattle.archive.specs.Record.{recordAt}
 use Rattle.archive.specs.Headers.{checkHeaders, forkRefusals, checkForkVotes}
 use Rattle.archive.specs.Replay.{refuses, gate, bodyBytes, voteBytes, onward, afterMatch, afterBoundary, heightRefusal, earlyRefusal, onParts, onRecord, votesSize, replayOf, Exhausted, mayOpen, openingRefusal, opened, openOf}
 use Rattle.archive.specs.Rounds.{RoundsKept}
+use Rattle.archive.specs.Steps.{StepsBy, StepsKept}
+use Rattle.archive.specs.Mainnet.{MainnetSteps}
 use Rattle.archive.proofs.Laws.Rounds.{kept}
+use Rattle.archive.proofs.Laws.Steps.{opening-steps}
 
 first-none : (n : ℕ) → first n 0 ≡ n
 unfolding first
@@ -229,20 +233,29 @@ unfolding onParts
 exhausted s xs r e l p q w =
     e ∙ sym (record-whole s xs (recordAt xs (votesSize (s .settings))) refl p q w) ∙ sym (gate-stop s heightUnexpected (heightRefusal s (p .height)) _ (sym (no-epoch s (p .height) l)) (λ z. omega arith))
 
--- the opening
+-- the opening: its answer, the rounds, and the steps
+abbrev Opens : ℕ → Table → Opened → Type 0
+Opens height t r = (r ≡ openOf height t) × (RoundsKept t r × (StepsKept r × MainnetSteps r))
+
+steps-from : {t : Table} {n : ℕ} (s : Replay) → s ≡ record { settings = mainnet; table = t; next = n; tally = noTally } → StepsBy (votingLength (s .settings) / 2) [] s × StepsBy 512 [] s
+steps-from s q = opening-steps s (ap (λ (x : Replay). x .tally) q) (ap (λ (x : Replay). x .settings) q)
+
 module _ (height : ℕ) (t : Table) (b : Bool) (is-b : b ≡ mayOpen height) where
   pub open-refused : b ≡ false → (s : Replay) → s ≡ record { settings = mainnet; table = t; next = 2147483648; tally = noTally }
-      → (record { refusal = heightUnexpected; state = s } ≡ openOf height t) × RoundsKept t (record { refusal = heightUnexpected; state = s })
+      → Opens height t (record { refusal = heightUnexpected; state = s })
   unfolding openOf openingRefusal opened
-  open-refused f s q = (rw (← is-b, f, q), λ v l m k z. absurd (omega arith))
+  open-refused f s q = (rw (← is-b, f, q), ((λ v l m k z. absurd (omega arith)), steps-from s q))
 
   pub open-opens : b ≡ true → (s : Replay) → s ≡ record { settings = mainnet; table = t; next = height; tally = noTally }
-      → (record { refusal = 0; state = s } ≡ openOf height t) × RoundsKept t (record { refusal = 0; state = s })
+      → Opens height t (record { refusal = 0; state = s })
   unfolding openOf openingRefusal opened mayOpen
   open-opens f s q =
       let a = both (ltb 0 height && eqb (height % votingLength mainnet) 0) _ (sym is-b ∙ f) in
       let m = eqb-true (height % votingLength mainnet) 0 (both (ltb 0 height) _ (a .0) .1) in (
         rw (← is-b, f, q),
-        λ v l w k z calls.
-            kept s v (ap (λ (x : Replay). x .settings) q) (ap (λ (x : Replay). x .next % votingLength mainnet) q ∙ m) (ap (λ (x : Replay). x .tally) q) w (ap (λ (x : Replay). x .table .fork) q ∙ k) calls,
+        (
+          λ v l w k z calls.
+              kept s v (ap (λ (x : Replay). x .settings) q) (ap (λ (x : Replay). x .next % votingLength mainnet) q ∙ m) (ap (λ (x : Replay). x .tally) q) w (ap (λ (x : Replay). x .table .fork) q ∙ k) calls,
+          steps-from s q,
+        ),
       )

@@ -17,13 +17,14 @@ use Rattle.voting.specs.declared.tally.Tally.{Tally}
 use Rattle.voting.specs.declared.table.Fork.{Fork}
 use Rattle.voting.specs.declared.tally.Entry.{Entry}
 use Rattle.voting.specs.declared.fork.ForkVote.the-variants.{Allowed, Refused as Refused′}
+use Rattle.voting.specs.declared.boundary.Boundary.{Boundary}
 use Rattle.voting.specs.Common.{eqZ}
 use Rattle.voting.specs.Settings.{votingLength, voteEpochs, activationEpochs, mainnet, settingsLarge}
 use Rattle.voting.specs.Table.{lookup, forkEntries}
 use Rattle.voting.specs.Header.{softForkVote, checkHeaderVotes, votesFor, AllLegal}
 use Rattle.voting.specs.Tally.{headers, noTally, seeded, seeds, tallyVotesSeeded, entry, entries, firstCount, firstVotes, countedFor}
 use Rattle.voting.specs.ForkCheck.{checkRound, checkForkVote, forkRefusal}
-use Rattle.voting.specs.ForkPart.{noRound, roundRefused, roundFrom, roundAt, forkAfter}
+use Rattle.voting.specs.ForkPart.{noRound, roundRefused, roundFrom, roundAt}
 use Rattle.voting.specs.Boundary.{boundaryOf}
 use Rattle.voting.proofs.Laws.Fork.{allowed}
 use Rattle.voting.proofs.Laws.Header.{first-zero}
@@ -35,6 +36,7 @@ use Rattle.rounds.specs.Claim.{Opening}
 use Rattle.rounds.proofs.Mainnet.{mainnet-promise}
 use Rattle.rounds.specs.Replay as Interface
 use Rattle.rounds.specs.Replay.{accepted, run, Lawful}
+use Rattle.extension.specs.declared.boundary.Computed.{Computed}
 use Rattle.extension.specs.declared.parameters.Matched.{Matched}
 use Rattle.extension.specs.Body.{proposedUpdate}
 use Rattle.extension.specs.Parameters.{parametersOf, checkParameters}
@@ -90,22 +92,21 @@ boundary-allowed g t height (a ∷ b ∷ []) e v = absurd (true≢false (sym v))
 boundary-allowed g t height (a ∷ b ∷ c ∷ votes) e v =
     vote-allowed g height (a ∷ b ∷ c ∷ []) t (first-zero (forkRefusal (checkForkVote g height (a ∷ b ∷ c ∷ []) t)) 0 e .0) v
 
--- the boundary that passes
+-- the boundary that passes: its table is that of the boundary without an update's bytes
 module _ (g : VotingConfig) (height : ℕ) (t : Table) (tally : List Entry) (vote : Bool) (s : List ℕ) where
-  record Passes : Type 0 where
-    round-passes : roundAt g height vote (firstCount (pos softForkVote) tally) (t .fork) .refusal ≡ 0
-    new-fork : computedOf g height t tally vote s .table .fork ≡ forkAfter g height (roundAt g height vote (firstCount (pos softForkVote) tally) (t .fork) .round) (t .fork) .fork
+  abbrev bare : Boundary
+  bare = boundaryOf g height t tally vote (disables s (updateOf s .update) 409)
 
-  passes : computedOf g height t tally vote s .refusal ≡ 0 → Passes
+  computed-passes : computedOf g height t tally vote s .refusal ≡ 0 → (bare .refusal ≡ 0) × (computedOf g height t tally vote s .table ≡ bare .table)
   unfolding computedOf withUpdate activates
-  passes e = go (eqb (updateOf s .refusal) 0) refl e
+  computed-passes e = go (eqb (updateOf s .refusal) 0) refl e
     where
-      go : (b : Bool) → eqb (updateOf s .refusal) 0 ≡ b
-          → cond b (activates (updateOf s .update) (boundaryOf g height t tally vote (disables s (updateOf s .update) 409))) (record { refusal = updateOf s .refusal; table = t; round = noRound; activated = noUpdate }) .refusal ≡ 0
-          → Passes
-      go true q x =
-          let y = passed g height t tally vote (disables s (updateOf s .update) 409) x in
-          record { round-passes = y .round-passes; new-fork = rw q (y .new-fork) }
+      refused : Computed
+      refused = record { refusal = updateOf s .refusal; table = t; round = noRound; activated = noUpdate }
+
+      go : (b : Bool) → eqb (updateOf s .refusal) 0 ≡ b → cond b (activates (updateOf s .update) bare) refused .refusal ≡ 0
+          → (bare .refusal ≡ 0) × (cond b (activates (updateOf s .update) bare) refused .table ≡ bare .table)
+      go true q x = (x, refl)
       go false q x = absurd (eqb-false (updateOf s .refusal) 0 q x)
 
 not-large : (g : VotingConfig) (height : ℕ) (vote : Bool) (votes : ℕ) (f : Fork) → roundAt g height vote votes f .refusal ≡ 0 → votingLength g ≤ 65535
@@ -127,15 +128,18 @@ own-tally height l votes e m =
     rw (le-ltb 65536 (length votes / 3) f, eq-eqb (height + l) (height + l) refl, whole-threes votes l e)
 
 -- what an accepted record has met and left
-record Met (s : Replay) (height : ℕ) (votes : List ℕ) (u : Replay) : Type 0 where
-  height-is : height ≡ s .next
-  top : height + votingLength (s .settings) ≤ 2 ^ 31
-  all-legal : AllLegal (headers votes)
-  check : boundaryVotes votes ≡ true → checkRound (s .settings) height (s .table .fork .start) (s .table .fork .votes) ≡ Allowed
-  fork-part : u .table .fork ≡ forkAfter (s .settings) height (roundAt (s .settings) height (boundaryVotes votes) (firstCount (pos softForkVote) (entries (s .tally))) (s .table .fork) .round) (s .table .fork) .fork
-  next-is : u .next ≡ height + votingLength (s .settings)
-  brings : u .tally ≡ seeded votes
-  settings-stay : u .settings ≡ s .settings
+pub record Met (s : Replay) (height : ℕ) (votes : List ℕ) (u : Replay) : Type 0 where
+  pub long : length votes ≡ 3 * votingLength (s .settings)
+  pub height-is : height ≡ s .next
+  pub top : height + votingLength (s .settings) ≤ 2 ^ 31
+  pub all-legal : AllLegal (headers votes)
+  pub check : boundaryVotes votes ≡ true → checkRound (s .settings) height (s .table .fork .start) (s .table .fork .votes) ≡ Allowed
+  pub disabled : Bool
+  pub passes : boundaryOf (s .settings) height (s .table) (entries (s .tally)) (boundaryVotes votes) disabled .refusal ≡ 0
+  pub new-table : u .table ≡ boundaryOf (s .settings) height (s .table) (entries (s .tally)) (boundaryVotes votes) disabled .table
+  pub next-is : u .next ≡ height + votingLength (s .settings)
+  pub brings : u .tally ≡ seeded votes
+  pub settings-stay : u .settings ≡ s .settings
 
 matched-accepts : (s : Replay) (height : ℕ) (votes : List ℕ) (t : Table) (m : Matched) (u : Replay) → Accepts (afterMatch s height votes t m) u → onward s height votes t ≡ u
 unfolding afterMatch
@@ -159,14 +163,19 @@ parts-met s height body votes u l e₀ =
     let a₅ = gate-zero s _ _ u (a₄ .1) in
     let q = sym (matched-accepts s height votes (b .table) (checkParameters (b .table) (parametersOf body .map)) u (a₅ .1)) in
     let w = both (eqb height (s .next)) (leb (height + votingLength g) (2 ^ 31)) (zero-test _ (a₁ .0)) in
-    let p = passes g height (s .table) (entries (s .tally)) (boundaryVotes votes) (proposedUpdate body) (a₅ .0) in
-    let m = not-large g height (boundaryVotes votes) (firstCount (pos softForkVote) (entries (s .tally))) (s .table .fork) (p .round-passes) in
+    let off = disables (proposedUpdate body) (updateOf (proposedUpdate body) .update) 409 in
+    let p = computed-passes g height (s .table) (entries (s .tally)) (boundaryVotes votes) (proposedUpdate body) (a₅ .0) in
+    let r = passed g height (s .table) (entries (s .tally)) (boundaryVotes votes) off (p .0) .round-passes in
+    let m = not-large g height (boundaryVotes votes) (firstCount (pos softForkVote) (entries (s .tally))) (s .table .fork) r in
     record {
+      long = l;
       height-is = eqb-true height (s .next) (w .0);
       top = leb-true (height + votingLength g) (2 ^ 31) (w .1);
       all-legal = legal (headers votes) (a₂ .0);
       check = boundary-allowed g (s .table) height votes (a₃ .0);
-      fork-part = ap (λ (x : Replay). x .table .fork) q ∙ p .new-fork;
+      disabled = off;
+      passes = p .0;
+      new-table = ap (λ (x : Replay). x .table) q ∙ p .1;
       next-is = ap (λ (x : Replay). x .next) q;
       brings = ap (λ (x : Replay). x .tally) q ∙ own-tally height (votingLength g) votes l m;
       settings-stay = ap (λ (x : Replay). x .settings) q;
@@ -179,16 +188,15 @@ parts-met s height body votes u l e₀ =
 -- ---- the law
 
 record-met : (s : Replay) (xs : List ℕ) (u : Replay) (x : RecordAt) → x ≡ recordAt xs (votesSize (s .settings)) → Accepts (onRecord s xs x) u
-    → (length (recordVotes xs x) ≡ 3 * votingLength (s .settings)) × Met s (recordHeight x) (recordVotes xs x) u
+    → Met s (recordHeight x) (recordVotes xs x) u
 unfolding onRecord recordHeight recordVotes
 record-met s xs u (Whole p) q e = go (eqb (p .end) (length xs)) e
   where
     l : length (voteBytes xs p) ≡ 3 * votingLength (s .settings)
     l = votes-long xs (votesSize (s .settings)) p q
 
-    go : (b : Bool) → Accepts (cond b (onParts s (p .height) (bodyBytes xs p) (voteBytes xs p)) (refuses s recordMalformed)) u
-        → (length (voteBytes xs p) ≡ 3 * votingLength (s .settings)) × Met s (p .height) (voteBytes xs p) u
-    go true x = (l, parts-met s (p .height) (bodyBytes xs p) (voteBytes xs p) u l x)
+    go : (b : Bool) → Accepts (cond b (onParts s (p .height) (bodyBytes xs p) (voteBytes xs p)) (refuses s recordMalformed)) u → Met s (p .height) (voteBytes xs p) u
+    go true x = parts-met s (p .height) (bodyBytes xs p) (voteBytes xs p) u l x
     go false x =
         let v : Refused recordMalformed ≡ Accepted = ap (λ (r : Replayed). r .verdict) x in
         absurd (let z : _≡_ {A = ℕ} 0 1 = cc in omega arith)
@@ -215,24 +223,37 @@ lawful g c xs t e =
     let a = answer-accepts (replayOf s xs) t e in
     let u = replayOf s xs .state in
     let m = record-met s xs u (recordAt xs (votesSize g)) refl (a .0) in
+    let votes = recordVotes xs (recordAt xs (votesSize g)) in
+    let p = passed g (recordHeight (recordAt xs (votesSize g))) (c .table) (entries (c .tally)) (boundaryVotes votes) (m .disabled) (m .passes) in
     record {
-      long = m .0;
-      height = m .1 .height-is;
-      top = m .1 .top;
-      legal = m .1 .all-legal;
-      check = m .1 .check;
-      part = ap (λ (x : Core). x .table .fork) (sym (a .1)) ∙ m .1 .fork-part;
-      next = ap (λ (x : Core). x .next) (sym (a .1)) ∙ m .1 .next-is;
-      brings = ap (λ (x : Core). firstCount (pos softForkVote) (entries (x .tally))) (sym (a .1)) ∙ ap (λ (y : Tally). firstCount (pos softForkVote) (entries y)) (m .1 .brings);
+      long = m .long;
+      height = m .height-is;
+      top = m .top;
+      legal = m .all-legal;
+      check = m .check;
+      part = ap (λ (x : Core). x .table .fork) (sym (a .1)) ∙ ap (λ (x : Table). x .fork) (m .new-table) ∙ p .new-fork;
+      next = ap (λ (x : Core). x .next) (sym (a .1)) ∙ m .next-is;
+      brings = ap (λ (x : Core). firstCount (pos softForkVote) (entries (x .tally))) (sym (a .1)) ∙ ap (λ (y : Tally). firstCount (pos softForkVote) (entries y)) (m .brings);
     }
+
+-- the height and the vote bytes of a byte string, by a state's settings
+abbrev pub heightIn : Replay → List ℕ → ℕ
+heightIn s xs = recordHeight (recordAt xs (votesSize (s .settings)))
+
+abbrev pub votesOf : Replay → List ℕ → List ℕ
+votesOf s xs = recordVotes xs (recordAt xs (votesSize (s .settings)))
+
+pub met : (s : Replay) (xs : List ℕ) → replayOf s xs .verdict ≡ Accepted → Met s (heightIn s xs) (votesOf s xs) (replayOf s xs .state)
+unfolding replayOf
+met s xs e =
+    let t = replayOf s xs .state in
+    record-met s xs t (recordAt xs (votesSize (s .settings))) refl (ap (λ (v : Verdict). record { verdict = v; state = t }) e)
 
 -- an accepted record's epoch ends at 2^31 or before, where the next one begins
 pub accepted-at : (s : Replay) (xs : List ℕ) → replayOf s xs .verdict ≡ Accepted
     → (s .next + votingLength (s .settings) ≤ 2 ^ 31) × (replayOf s xs .state .next ≡ s .next + votingLength (s .settings))
-unfolding replayOf
 accepted-at s xs e =
-    let t = replayOf s xs .state in
-    let m = record-met s xs t (recordAt xs (votesSize (s .settings))) refl (ap (λ (v : Verdict). record { verdict = v; state = t }) e) .1 in
+    let m = met s xs e in
     let l = votingLength (s .settings) in
     (subst (λ (h : ℕ). h + l ≤ 2 ^ 31) (m .height-is) (m .top), m .next-is ∙ ap (λ (h : ℕ). h + l) (m .height-is))
 
@@ -291,7 +312,7 @@ call-goes s r k = go (r .verdict) k
     go (Refused n) x = (ap (λ (y : Replay). y .settings) x, ap core x)
     go (Mismatch id) x = (ap (λ (y : Replay). y .settings) x, ap core x)
 
-goes-on : (g : VotingConfig) (s : Replay) → s .settings ≡ g → (calls : List (List ℕ))
+pub goes-on : (g : VotingConfig) (s : Replay) → s .settings ≡ g → (calls : List (List ℕ))
     → (stateAfter s calls .settings ≡ g) × (core (stateAfter s calls) ≡ run (interface g) (core s) calls)
 unfolding stateAfter run
 goes-on g s e [] = (e, refl)

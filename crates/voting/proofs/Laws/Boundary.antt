@@ -118,10 +118,17 @@ unfolding gate
 gate-zero t zero b e = (refl, refl)
 gate-zero t (suc n) b e = absurd (omega arith)
 
--- neither the round nor the fork entries were refused, and the new table has these entries
+-- the table after the fork part
+abbrev pub forkedBy : VotingConfig → ℕ → Table → List Entry → Bool → Table
+forkedBy g height t tally vote = withFork t (forkAfter g height (roundAt g height vote (firstCount (pos softForkVote) tally) (t .fork) .round) (t .fork) .fork)
+
+-- neither the round, nor the fork entries, nor the votes were refused; the new table has these entries, and is that of the votes but for entry 9
 pub record Passed (g : VotingConfig) (height : ℕ) (t : Table) (tally : List Entry) (vote disables : Bool) : Type 0 where
   pub round-passes : roundAt g height vote (firstCount (pos softForkVote) tally) (t .fork) .refusal ≡ 0
   pub fork-passes : forkAfter g height (roundAt g height vote (firstCount (pos softForkVote) tally) (t .fork) .round) (t .fork) .refusal ≡ 0
+  pub votes-pass : ordinaryVotes g (forkedBy g height t tally vote) tally (forkedBy g height t tally vote) .refusal ≡ 0
+  pub new-table : boundaryOf g height t tally vote disables .table
+      ≡ withSubblocks (roundAt g height vote (firstCount (pos softForkVote) tally) (t .fork) .round .rose && disables) (ordinaryVotes g (forkedBy g height t tally vote) tally (forkedBy g height t tally vote) .table)
   pub new-fork : boundaryOf g height t tally vote disables .table .fork ≡ forkAfter g height (roundAt g height vote (firstCount (pos softForkVote) tally) (t .fork) .round) (t .fork) .fork
   pub same-round : boundaryOf g height t tally vote disables .round ≡ roundAt g height vote (firstCount (pos softForkVote) tally) (t .fork) .round
 
@@ -139,6 +146,8 @@ passed g height t tally vote disables e =
     record {
       round-passes = a .0;
       fork-passes = b .0;
+      votes-pass = c .0;
+      new-table = ap (λ (x : Boundary). x .table) (a .1 ∙ b .1 ∙ c .1);
       new-fork = ap (λ (x : Boundary). x .table .fork) (a .1 ∙ b .1 ∙ c .1) ∙ subblocks-keeps (r .round .rose && disables) (v .table) ∙ ordinary-keeps g from tally from;
       same-round = ap (λ (x : Boundary). x .round) (a .1 ∙ b .1 ∙ c .1);
     }

@@ -7,7 +7,6 @@ use Prim.Native.Nat.{ℕ, zero, suc, _+_, _-_, _≤_, _<_}
 use native.Mathlib.Omega.{arith}
 use lib.Dec.{eqb, ltb}
 use lib.IntN.{ℤ, pos, negsuc, negℤ}
-use lib.ListN.{length, getD}
 use mir.Syntax.{w8}
 use borrow.Author.Tests.{ltb-true, ltb-false, eqb-true, eqb-false, lt-ltb, le-ltb, ne-eqb}
 use Rattle.codec.specs.Refusal.{tooManyVotes, repeatedVote, contradictoryVote}
@@ -16,12 +15,8 @@ use Rattle.codec.proofs.Laws.Signed.{signed-back}
 use Rattle.voting.specs.Common.{eqZ, count, first, Each, Bytes}
 use Rattle.voting.proofs.Laws.Tests.{eqb-comm}
 use Rattle.voting.proofs.Laws.Integers.{eqZ-same, ne-eqZ, eqZ-comm}
+use Rattle.voting.proofs.Laws.Each.{each}
 use Rattle.voting.specs.Header.{softForkVote, votesIn, negation, ordinaryVote, fault, faultIn, checkVotes, checkHeaderVotes, votesFor}
-
--- a statement of every element, turned into another
-pub each : {A : Type 0} (P Q : A → Type 0) → ((x : A) → P x → Q x) → (xs : List A) → Each P xs → Each Q xs
-each P Q f [] h = h
-each P Q f (x ∷ xs) h = (f x (h .0), each P Q f xs (h .1))
 
 -- how often something is among three
 pub count-three : {A : Type 0} (p : A → Bool) (a b c : A) {x y z : ℕ} → x ≡ cond (p a) 1 0 → y ≡ cond (p b) 1 0 → z ≡ cond (p c) 1 0 → x + y + z ≡ count p (a ∷ b ∷ c ∷ [])

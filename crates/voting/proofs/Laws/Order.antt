@@ -3,7 +3,7 @@
 use mathlib.Core.Path.{_≡_, refl, sym, ap, _∙_, subst, subst₂}
 use mathlib.Core.Logic.{_⊎_, inl, inr}
 use mathlib.Core.Bool.{Bool, true, false, cond}
-use mathlib.Core.List.{List, [], _∷_, List·Permᴰ, List·Permᴰ·nil, List·Permᴰ·cons, List·Permᴰ·swap, List·Permᴰ·trans}
+use mathlib.Core.List.{List, _∷_, List·Permᴰ, List·Permᴰ·nil, List·Permᴰ·cons, List·Permᴰ·swap, List·Permᴰ·trans}
 use Prim.Native.Nat.{ℕ, zero, suc, _<_}
 use native.Mathlib.Omega.{arith}
 use lib.IntN.{ℤ, pos, negsuc}
@@ -31,18 +31,14 @@ use Rattle.voting.specs.Ordinary.{parameter, moved, known, passes, stops
 use Rattle.voting.specs.Boundary.{refuses, gate, afterVotes, afterFork, afterRound, boundaryOf}
 use Rattle.voting.specs.Order.{Compatible, Consistent, NoParameter, SameRefusal}
 use Rattle.voting.proofs.Laws.Integers.{eqZ-true}
-use Rattle.voting.proofs.Laws.Header.{each}
+use Rattle.voting.proofs.Laws.Each.{pairwise}
 use Rattle.voting.proofs.Laws.Table.{known-range, update-comm}
 use Rattle.voting.proofs.Laws.Ordinary.{by-vote}
 use Rattle.voting.proofs.Laws.Boundary.{gate-stop}
 
--- ---- statements of every two elements
+-- ---- statements of every two elements, in another order
 
 module _ {A : Type 0} where
-  pairwise : (R S : A → A → Type 0) → ((x y : A) → R x y → S x y) → (xs : List A) → Pairwise R xs → Pairwise S xs
-  pairwise R S f [] h = h
-  pairwise R S f (x ∷ xs) h = (each (R x) (S x) (f x) xs (h .0), pairwise R S f xs (h .1))
-
   each-moved : (P : A → Type 0) {xs ys : List A} → List·Permᴰ xs ys → Each P xs → Each P ys
   each-moved P List·Permᴰ·nil h = h
   each-moved P (List·Permᴰ·cons e d) h = (subst P e (h .0), each-moved P d (h .1))
@@ -61,7 +57,7 @@ module _ {A : Type 0} where
 
 -- ---- compatible entries write two parameters, and one of them at most is for the fork
 
-abbrev Separate : Entry → Entry → Type 0
+abbrev pub Separate : Entry → Entry → Type 0
 Separate a b =
     (known (parameter (a .id)) ≡ true → known (parameter (b .id)) ≡ true → parameter (a .id) ≡ parameter (b .id) → ⊥)
     × (a .id ≡ pos softForkVote → b .id ≡ pos softForkVote → ⊥)
@@ -87,7 +83,7 @@ one-parameter (negsuc m) (pos n) k e p q =
     q (sym (negation-down m (omega arith)) ∙ ap (λ (i : ℕ). negation (pos i)) e)
 one-parameter (negsuc m) (negsuc n) k e p q = p (ap negsuc (let f : m ≡ n = omega arith in f))
 
-separate : (a b : Entry) → Compatible a b → Separate a b
+pub separate : (a b : Entry) → Compatible a b → Separate a b
 separate a b c = (λ p k e. one-parameter (a .id) (b .id) k e (c .0) (c .1), λ p q. c .0 (p ∙ sym q))
 
 -- ---- what an entry does, whatever the table so far: it leaves it, writes its parameter, or is refused by 13 or 14

@@ -2,7 +2,7 @@
 -- without its sign.
 -- Assumes nothing.
 use mathlib.Core.Path.{_≡_, refl, sym, ap, ap₂, _∙_, subst⁻¹}
-use mathlib.Core.Bool.{Bool, true, false, cond, _&&_, false≢true}
+use mathlib.Core.Bool.{Bool, true, false, cond, false≢true}
 use mathlib.Core.List.{List, [], _∷_}
 use Prim.Native.Nat.{ℕ, zero, suc, _+_, _-_, _/_, _^_, _≤_, _<_}
 use native.Mathlib.Nat.{div-le-self, le-of-suc-le-suc, lt-of-le-of-lt}
@@ -56,10 +56,10 @@ quot-back z f =
     rw (toZ-ofZ w32 z f) (h, toZ-ofZ w32 (quotZ z (pos 100)) h)
 
 -- the size of a step: a positive number, at most 25,000 or a hundredth of the value's magnitude
-record Size (z s : ℤ) : Type 0 where
-  less : ℕ
-  is : s ≡ pos (suc less)
-  bound : less ≤ 25000 + mag z / 100
+pub record Size (z s : ℤ) : Type 0 where
+  pub less : ℕ
+  pub is : s ≡ pos (suc less)
+  pub bound : less ≤ 25000 + mag z / 100
 
 hundredth-is : (z : ℤ) → Size z (hundredth z)
 unfolding hundredth
@@ -121,7 +121,7 @@ pub size-back : (m : ℕ) (z fixed : ℤ) {s : ℤ} → SFits w32 z → SFits w3
     → s ≡ stepSize (toZ w32 (ofZ w32 fixed)) (toZ w32 (ofZ w32 z)) → s ≡ stepSize (fixedStepOf m) z
 size-back m z fixed f g e q = q ∙ ap₂ stepSize (toZ-ofZ w32 fixed g ∙ e) (toZ-ofZ w32 z f)
 
-sized : (m : ℕ) (z s : ℤ) → s ≡ stepSize (fixedStepOf m) z → Size z s
+pub sized : (m : ℕ) (z s : ℤ) → s ≡ stepSize (fixedStepOf m) z → Size z s
 sized m z s e = subst⁻¹ (Size z) e (size-is (fixedStepOf m) z (step-small m))
 
 -- a step of a parameter, up and down, where its test passed

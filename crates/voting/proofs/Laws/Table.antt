@@ -7,9 +7,9 @@ use Prim.Native.Nat.{ℕ, _-_, _≤_, _<_}
 use native.Mathlib.Omega.{arith}
 use lib.Dec.{ltb, leb, eqb}
 use lib.IntN.{ℤ}
-use lib.ListN.{getD, set, length, length-set}
+use lib.ListN.{getD, set, length, List·getD-eq-default}
 use lib.Seq.{getD-set-same, getD-set-other, set-comm}
-use borrow.Author.Tests.{ltb-false, eqb-true, leb-true, lt-ltb, le-ltb, ne-eqb}
+use borrow.Author.Tests.{ltb-true, ltb-false, eqb-true, leb-true, lt-ltb, le-ltb, ne-eqb}
 use Rattle.voting.specs.declared.table.Value.{Value}
 use Rattle.voting.specs.declared.table.Value.the-variants.{Absent, Number}
 use Rattle.voting.specs.declared.table.Slot.{Slot}
@@ -35,11 +35,11 @@ known-tests m k =
 abbrev pub withOrdinary : Table → ℕ → Value → Table
 withOrdinary t m v = record { ordinary = set (t .ordinary) (m - 1) (slot v); fork = t .fork }
 
-update-known : (t : Table) (m : ℕ) (v : Value) → known m ≡ true → update t m v ≡ withOrdinary t m v
+pub update-known : (t : Table) (m : ℕ) (v : Value) → known m ≡ true → update t m v ≡ withOrdinary t m v
 unfolding update
 update-known t m v k = let e = known-tests m k in simp (e .0, e .1, e .2, e .3, e .4)
 
-lookup-known : (t : Table) (m : ℕ) → known m ≡ true → lookup t m ≡ getD (t .ordinary) (m - 1) (slot Absent) .value
+pub lookup-known : (t : Table) (m : ℕ) → known m ≡ true → lookup t m ≡ getD (t .ordinary) (m - 1) (slot Absent) .value
 unfolding lookup
 lookup-known t m k = let e = known-tests m k in simp (e .0, e .1, e .2, e .3, e .4)
 
@@ -50,12 +50,20 @@ lookup-none t id h a b c =
     rw (ne-eqb id 121 a, ne-eqb id 122 b, ne-eqb id 123 c)
     (by-test (ltb id 1) (λ e. rw e) (λ e. rw (e, lt-ltb 9 id (h (ltb-false id 1 e)))))
 
-pub lookup-update-same : (t : Table) (m : ℕ) (v : Value) → known m ≡ true → length (t .ordinary) ≡ 9 → lookup (update t m v) m ≡ v
-lookup-update-same t m v k l =
-    let r = known-range m k in
+-- an entry that is there, written
+pub lookup-update-same : (t : Table) (m : ℕ) (v : Value) (z : ℤ) → known m ≡ true → lookup t m ≡ Number z → lookup (update t m v) m ≡ v
+lookup-update-same t m v z k e =
     ap (λ (u : Table). lookup u m) (update-known t m v k)
     ∙ lookup-known (withOrdinary t m v) m k
-    ∙ ap (λ (s : Slot). s .value) (getD-set-same (t .ordinary) (m - 1) (slot v) (slot Absent) (omega arith))
+    ∙ ap (λ (s : Slot). s .value) (getD-set-same (t .ordinary) (m - 1) (slot v) (slot Absent) there)
+  where
+    outside : length (t .ordinary) ≤ m - 1 → Absent ≡ Number z
+    outside h = sym (ap (λ (s : Slot). s .value) (List·getD-eq-default (t .ordinary) (slot Absent) h)) ∙ sym (lookup-known t m k) ∙ e
+
+    there : m - 1 < length (t .ordinary)
+    there =
+        by-test (ltb (m - 1) (length (t .ordinary))) (λ q. ltb-true (m - 1) (length (t .ordinary)) q)
+        (λ q. absurd (absent-number z (outside (ltb-false (m - 1) (length (t .ordinary)) q))))
 
 -- two parameters written in either order
 pub update-comm : (t : Table) (m k : ℕ) (v w : Value) → known m ≡ true → known k ≡ true → (m ≡ k → ⊥) → update (update t m v) k w ≡ update (update t k w) m v
@@ -85,11 +93,6 @@ by-update P t m v p q r s o =
     by-test (ltb m 1) (λ e. simp (a, b, c, e) s) λ f.
     by-test (ltb 9 m) (λ e. simp (a, b, c, f, e) s) λ g.
     simp (a, b, c, f, g) (o (ltb-false m 1 f) (ltb-false 9 m g))
-
-pub update-length : (t : Table) (m : ℕ) (v : Value) → length ((update t m v) .ordinary) ≡ length (t .ordinary)
-update-length t m v =
-    by-update (λ u. length (u .ordinary) ≡ length (t .ordinary)) t m v (λ e. refl) (λ e. refl) (λ e. refl) refl
-    (λ a b. length-set (t .ordinary) (m - 1) (slot v))
 
 pub lookup-update-other : (t : Table) (m k : ℕ) (v : Value) → (k ≡ m → ⊥) → lookup (update t m v) k ≡ lookup t k
 unfolding lookup
