@@ -4,5 +4,6 @@ pub mod RecordTrip
 pub mod RecordBytes
 pub mod Rounds
 pub mod Steps
+pub mod StepsExample
 pub mod Replay
 pub mod Least

@@ -4,3 +4,4 @@ pub mod Replay
 pub mod Rounds
 pub mod Steps
 pub mod Mainnet
+pub mod StepsExample

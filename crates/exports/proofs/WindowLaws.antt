@@ -10,7 +10,7 @@ use lib.Dec.{ltb, leb, eqb}
 use lib.ListN.{length, getD}
 use Rattle.codec.specs.Refusal.{outputShort, windowLengthOutside}
 use Rattle.codec.specs.Signed.{bitsOf, modulo}
-use Rattle.voting.specs.Common.{Each}
+use Rattle.voting.specs.Common.{Each, Bytes}
 use Rattle.voting.specs.Header.{checkHeaderVotes}
 use Rattle.voting.proofs.Laws.Tests.{by-test}
 use Rattle.voting.proofs.Laws.Refusals.{first-by, header-by}
@@ -145,18 +145,18 @@ unfolding after
 fits-after x f [] = f
 fits-after x f (votes ∷ headers) = fits-after (putOf (x .answer .window) (x .cells) votes) (fits-put (x .answer .window) f (x .cells) votes) headers
 
-byte-at : (votes : List ℕ) (k : ℕ) → Each (λ b. b < 256) votes → getD votes k 0 < 256
+byte-at : (votes : List ℕ) (k : ℕ) → Bytes votes → getD votes k 0 < 256
 byte-at [] k e = omega arith
 byte-at (b ∷ votes) zero e = e .0
 byte-at (b ∷ votes) (suc k) e = byte-at votes k (e .1)
 
-headers-of : (headers : List (List ℕ)) → Each (Each (λ b. b < 256)) headers → Each IsHeader (votesOfEach headers)
+headers-of : (headers : List (List ℕ)) → Each Bytes headers → Each IsHeader (votesOfEach headers)
 unfolding votesOfEach
 headers-of [] e = tt
 headers-of (votes ∷ headers) e = ((refl, (byte-at votes 0 (e .0), (byte-at votes 1 (e .0), (byte-at votes 2 (e .0), tt)))), headers-of headers (e .1))
 
 module _ (n : ℕ) (x : Left) (fits : Fits (x .answer .window)) (kept : (headers : List (List ℕ)) → Each IsHeader headers → Kept n headers (after x headers)) where
-  kept-on : (headers : List (List ℕ)) → Each (Each (λ b. b < 256)) headers → Kept n (votesOfEach headers) (numberWindow (putOn (reply (windowNumber (x .answer .window)) (x .cells)) headers))
+  kept-on : (headers : List (List ℕ)) → Each Bytes headers → Kept n (votesOfEach headers) (numberWindow (putOn (reply (windowNumber (x .answer .window)) (x .cells)) headers))
   unfolding numberWindow
   kept-on headers e =
       let vs = votesOfEach headers in

@@ -4,7 +4,7 @@ use Prim.Native.Nat.{ℕ, zero, suc, _+_, _*_, _/_, _%_, _<_, _^_}
 use mathlib.Core.Bool.{cond}
 use mathlib.Core.List.{List, [], _∷_}
 use lib.Dec.{ltb}
-use Rattle.voting.specs.Common.{Each}
+use Rattle.voting.specs.Common.{Each, Bytes}
 use Rattle.support.specs.declared.window.Window.{Window}
 use Rattle.support.specs.declared.window.Answer.{Answer}
 use Rattle.support.specs.Window.{Left, left, putOf}
@@ -55,4 +55,4 @@ numberWindow (reply w cells) = left (record { refusal = 0; window = windowAt w }
 -- itself
 abbrev pub KeptThrough : ℕ → ℕ → List ℕ → Type 0
 KeptThrough n w cells =
-    w < 2 ^ 63 → (headers : List (List ℕ)) → Each (Each (λ b. b < 256)) headers → Kept n (votesOfEach headers) (numberWindow (putOn (reply w cells) headers))
+    w < 2 ^ 63 → (headers : List (List ℕ)) → Each Bytes headers → Kept n (votesOfEach headers) (numberWindow (putOn (reply w cells) headers))

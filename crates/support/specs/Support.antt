@@ -1,17 +1,17 @@
 -- Support: how many of the last headers vote for an id. docs/RULES.md, "Support".
 -- Assumes nothing.
-use Prim.Native.Nat.{ℕ, _-_, _<_}
+use Prim.Native.Nat.{ℕ, _-_}
 use mathlib.Core.Path.{_≡_}
 use mathlib.Core.Bool.{cond}
 use mathlib.Core.List.{List, [], _∷_}
 use lib.Dec.{eqb}
 use lib.ListN.{length, drop}
-use Rattle.voting.specs.Common.{count, Each}
+use Rattle.voting.specs.Common.{count, Bytes}
 use Rattle.voting.specs.Header.{checkHeaderVotes, votesFor}
 
 -- a header: three vote bytes
 abbrev pub IsHeader : List ℕ → Type 0
-IsHeader votes = (length votes ≡ 3) × Each (λ b. b < 256) votes
+IsHeader votes = (length votes ≡ 3) × Bytes votes
 
 -- the headers that the header check accepts, in order
 unfoldable pub accepted : List (List ℕ) → List (List ℕ)

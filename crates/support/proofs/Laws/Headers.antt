@@ -9,7 +9,7 @@ use borrow.Author.Tests.{eqb-true, eqb-false, ne-eqb}
 use lib.Dec.{eqb}
 use lib.ListN.{length, take, drop, getD, length-append, length-drop, replicate, length-replicate, getD-replicate, replicate-append-replicate, List·getD-append}
 use lib.Seq.{length-take-le, take-at, drop-at}
-use Rattle.voting.specs.Common.{count, Each}
+use Rattle.voting.specs.Common.{count, Each, Bytes}
 use Rattle.voting.specs.Header.{checkHeaderVotes, votesFor, AllLegal}
 use Rattle.voting.specs.Tally.{headers}
 use Rattle.voting.proofs.Laws.Tests.{by-test}
@@ -174,7 +174,7 @@ flat-none (suc n) =
     let e : 3 * suc n ≡ suc (suc (suc (3 * n))) = omega arith in
     rw e (ap (λ (bs : List ℕ). 0 ∷ 0 ∷ 0 ∷ bs) (flat-none n))
 
-zeros-small : (n : ℕ) → Each (λ b. b < 256) (replicate n 0)
+zeros-small : (n : ℕ) → Bytes (replicate n 0)
 zeros-small zero = tt
 zeros-small (suc n) = (omega arith, zeros-small n)
 

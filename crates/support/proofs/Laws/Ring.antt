@@ -9,7 +9,7 @@ use borrow.Author.Tests.{eqb-true, eqb-false}
 use lib.Dec.{eqb}
 use lib.ListN.{length, take, drop, getD, set, length-set, length-append, length-drop, drop-of-length-le}
 use lib.Seq.{take-all, drop-cons, take-suc-set, drop-set-lt, drop-set-add, take-set-lt, getD-take, getD-drop, getD-set-other, length-take-le}
-use Rattle.voting.specs.Common.{count, Each}
+use Rattle.voting.specs.Common.{count, Each, Bytes}
 use Rattle.voting.proofs.Laws.Tally.{count-most, count-append}
 use Rattle.support.specs.Window.{added, oneMore, oneLess, replaced}
 use Rattle.support.proofs.Laws.Cells.{added-length, added-drop, added-zero, added-at}
@@ -45,7 +45,7 @@ pub record Holds (n q : ℕ) (cells bytes : List ℕ) : Type 0 where
   pub place : q ≤ n
   pub size : length bytes ≡ n
   pub ring : turned q (take n (drop 256 cells)) ≡ bytes
-  pub small : Each (λ b. b < 256) bytes
+  pub small : Bytes bytes
   pub supports : (id : ℕ) → id < 256 → getD cells id 0 ≡ counted bytes id
 
 module _ (n q : ℕ) (cells : List ℕ) (x : ℕ) (bytes : List ℕ) (holds : Holds n q cells (x ∷ bytes)) (l : q < n) (m : n < 65535) (b : ℕ) (small-b : b < 256) where

@@ -220,7 +220,7 @@ none-counted v = refl
 
 -- the first entry of a vote in the tally of an epoch of legal headers has what is counted for that vote
 pub tally-counts : (v : ℕ) → (v ≡ 0 → ⊥) → (bs : List ℕ) → whole bs ≡ bs → Alike v bs → AllLegal (headers bs) → firstCount (signedOf 8 v) (entries (seeded bs)) ≡ countedFor v bs
-unfolding headers seeded countedFor firstVotes
+unfolding headers seeded countedFor firstVotes count
 tally-counts v n [] w k l = none-counted v
 tally-counts v n (a ∷ []) w k l = none-counted v
 tally-counts v n (a ∷ b ∷ []) w k l = none-counted v
