@@ -1,4 +1,4 @@
-//! Document 01's examples at the edges, those of a tally's order, and some answers of the replay.
+//! Document 01's examples at the edges, those of a tally's order and of a year's steps, and some answers of the replay.
 
 use chain::voting::{ValidationSettingsUpdate, VotingConfig};
 use ergo_lib::chain::parameters::Parameters;
@@ -49,6 +49,14 @@ fn steps() {
     assert_eq!(step(1, 2_500_000), Some(2_500_000));
     assert_eq!(step(3, 524_288), Some(529_530));
     assert_eq!(step(-3, 16_385), Some(16_222));
+}
+
+/// docs/RULES.md, "Steps over the years": parameter 4 moved the same way at 257 boundaries.
+#[test]
+fn year_of_steps() {
+    let year =
+        |vote| (0..257).fold(1_000_000, |value, _| entry(4, &[(4, value), (123, 1)], 2048, &[(vote, 1024)]).expect("a value"));
+    assert_eq!([year(4), year(-4)], [12_899_538, 75_599]);
 }
 
 /// docs/RULES.md, "In another order": where it matters.

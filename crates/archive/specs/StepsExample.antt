@@ -1,9 +1,10 @@
--- Five records, by settings in which an epoch has three headers, so that two votes are more than half. docs/RULES.md, "Steps over the years".
+-- Five records, by settings in which an epoch has three headers, so that two votes are more than half; and a year of steps one way.
+-- docs/RULES.md, "Steps over the years".
 -- Assumes nothing.
-use Prim.Native.Nat.{ℕ}
+use Prim.Native.Nat.{ℕ, zero, suc}
 use mathlib.Core.Path.{_≡_}
 use mathlib.Core.List.{List, [], _∷_, _++_}
-use lib.IntN.{pos}
+use lib.IntN.{ℤ, pos}
 use lib.ListN.{replicate}
 use Rattle.codec.specs.BigEndian.{bigEndianBytes}
 use Rattle.voting.specs.declared.table.Value.{Value}
@@ -11,6 +12,7 @@ use Rattle.voting.specs.declared.table.Value.the-variants.{Number}
 use Rattle.voting.specs.Settings.{settings}
 use Rattle.voting.specs.Table.{lookup}
 use Rattle.voting.specs.Tally.{noTally, countedFor}
+use Rattle.voting.specs.Ordinary.{raised, lowered}
 use Rattle.extension.specs.Order.{onlyFirst}
 use Rattle.archive.specs.declared.replay.Replay.{Replay}
 use Rattle.archive.specs.declared.replay.Verdict.the-variants.{Mismatch}
@@ -64,3 +66,13 @@ pub record StepsTaken : Type 0 where
   pub stays : valueAfter (first ∷ wrong ∷ second ∷ third ∷ []) ≡ Number (pos 2524999)
   pub two-for-down : countedAfter 255 (first ∷ wrong ∷ second ∷ third ∷ []) ≡ 2
   pub down : valueAfter (first ∷ wrong ∷ second ∷ third ∷ fourth ∷ []) ≡ Number (pos 2499999)
+
+-- one step after another
+unfoldable pub repeated : ℕ → (ℤ → ℤ) → ℤ → ℤ
+repeated zero step z = z
+repeated (suc n) step z = repeated n step (step z)
+
+-- parameter 4 from where mainnet's first table has it, moved the same way at 257 boundaries
+pub record YearOfSteps : Type 0 where
+  pub all-up : repeated 257 (raised 4) (pos 1000000) ≡ pos 12899538
+  pub all-down : repeated 257 (lowered 4) (pos 1000000) ≡ pos 75599

@@ -7,6 +7,7 @@ mod exhaustive;
 mod long;
 mod orders;
 mod report;
+mod steps;
 mod streams;
 mod windows;
 
@@ -27,6 +28,7 @@ fn main() -> ExitCode {
     let mut reports: Vec<Report> = exhaustive.chain(random).collect();
     reports.push(print("tallies in two orders", orders::run(&mut Random::new(seed))));
     reports.push(print("long lists", long::run(&mut Random::new(seed))));
+    reports.push(print("steps over long lists of records", steps::run(&mut Random::new(seed))));
     reports.push(print("lines over streams", streams::run(&mut Random::new(seed))));
     reports.push(print("windows, header by header", windows::header_by_header(&mut Random::new(seed))));
     reports.push(print("windows, any cells", windows::any_cells(&mut Random::new(seed))));

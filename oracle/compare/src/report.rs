@@ -118,6 +118,17 @@ impl Report {
         });
     }
 
+    /// Compares what the Rust makes of a parameter at a boundary with what the rules say of it.
+    pub fn compare_step(&mut self, (id, old): (i8, i32), epoch: &[u8], new: Option<i32>, said: i32) {
+        self.compared += 1;
+        self.count(new == Some(said), || Difference {
+            input: format!("parameter {id} of {old}, after an epoch of the votes {}", hex(epoch)),
+            size: epoch.len(),
+            rust: format!("{new:?}"),
+            library: format!("not asked; the rules say {said}"),
+        });
+    }
+
     /// Compares texts for an input of records, line by line.
     pub fn compare_texts(&mut self, input: &[u8], rust: &[u8], library: &[u8]) {
         let line =

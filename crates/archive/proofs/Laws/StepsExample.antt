@@ -1,4 +1,4 @@
--- The five records, computed.
+-- The five records and the year of steps, computed.
 -- Assumes nothing.
 use mathlib.Core.Path.{refl}
 use Rattle.codec.specs.Signed.{modulo, bitsOf, signedOf, wrapped}
@@ -11,7 +11,7 @@ use Rattle.voting.specs.Header.{votesIn, negation, ordinaryVote, fault, faultIn
 use Rattle.voting.specs.Tally.{headers, whole, slotEntry, seeded, seeds, tallyVotesSeeded, entry, entries, firstCount, firstVotes, countedFor}
 use Rattle.voting.specs.ForkCheck.{checkForkVote, forkRefusal}
 use Rattle.voting.specs.ForkPart.{roundFrom, roundAt, storedOr, votesAfter, startAfter, risen, forced, versionAfter, forkAfter}
-use Rattle.voting.specs.Ordinary.{leastOf, greatestOf, fixedStepOf, stepSize, raised, lowered, moved, known, onward, counts, writes, approvedVote, voted, ordinaryVotes}
+use Rattle.voting.specs.Ordinary.{leastOf, greatestOf, fixedStepOf, hundredth, stepSize, raised, lowered, moved, known, onward, counts, writes, approvedVote, voted, ordinaryVotes}
 use Rattle.voting.specs.Boundary.{gate, isNumber, isAbsent, withSubblocks, afterVotes, afterFork, afterRound, boundaryOf}
 use Rattle.rounds.specs.Epochs.{boundaryVotes, lastOf}
 use Rattle.rounds.specs.Replay.{add-epoch, epochs}
@@ -25,7 +25,7 @@ use Rattle.archive.specs.Headers.{headersRefusal, checkHeaders, forkRefu
 use Rattle.archive.specs.Replay.{gate as gateReplay, afterMatch, afterBoundary, heightRefusal, onParts, onRecord, replayOf}
 use Rattle.archive.specs.Rounds.{answerBy, answer, recordVotes, stateAfter}
 use Rattle.archive.specs.Steps.{epochBefore}
-use Rattle.archive.specs.StepsExample.{StepsTaken}
+use Rattle.archive.specs.StepsExample.{StepsTaken, repeated, YearOfSteps}
 
 pub steps-taken : StepsTaken
 unfolding modulo bitsOf signedOf wrapped bigEndian bigEndianBytes continued byte numberOf low64 below vlqOf placed vlqAt eqZ count first changeApproved settingsLarge lookup update votesIn negation ordinaryVote fault faultIn checkVotes checkHeaderVotes votesFor headers whole slotEntry seeded seeds tallyVotesSeeded entry entries firstCount firstVotes countedFor checkForkVote forkRefusal roundFrom roundAt storedOr votesAfter startAfter risen forced versionAfter forkAfter leastOf greatestOf fixedStepOf stepSize raised lowered moved known onward counts writes approvedVote voted ordinaryVotes gate isNumber isAbsent withSubblocks afterVotes afterFork afterRound boundaryOf boundaryVotes lastOf add-epoch epochs after listing items closed sectionItems any fieldAt fieldReading readField fieldsFrom extensionOf fieldsOf updateKey parameterKey updateIn proposedUpdate wrongSize wrongParameter checkBody noParameters entryOf numberIn taken parametersIn readParameters parametersOf agrees tableIds firstDiffering matched checkParameters updateOf activates withUpdate computedOf taggedBytes recordBytes sizedAt taggedAt withVotes withBody withHeight recordAt headersRefusal checkHeaders forkRefusals checkForkVotes gateReplay afterMatch afterBoundary heightRefusal onParts onRecord replayOf answerBy answer recordVotes stateAfter epochBefore
@@ -40,3 +40,7 @@ steps-taken =
       two-for-down = refl;
       down = refl;
     }
+
+pub year-of-steps : YearOfSteps
+unfolding leastOf greatestOf fixedStepOf hundredth stepSize raised lowered repeated
+year-of-steps = record { all-up = refl; all-down = refl }

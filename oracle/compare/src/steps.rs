@@ -1,0 +1,172 @@
+//! Long lists of records, and what docs/RULES.md, "Steps over the years", says of each boundary in them, tried on the Rust's own
+//! tables. Each record is asked of both sides, too.
+
+use std::collections::BTreeMap;
+
+use oracle::answers::archive::{first_votes, state_bytes};
+use oracle::answers::bytes::IN_ORDER;
+use oracle::inputs::random::Random;
+use oracle::record::{read_record, HEADERS};
+use oracle::replay::{open, open_mainnet, State};
+use oracle::rules::{self, Votes};
+use oracle::streams::build::{Parts, UPDATE};
+use oracle::table::{from_map, to_map, Map};
+
+use crate::report::Report;
+
+/// How many lists, and how many records are handed over in each. Thirty years have some 7,700 epochs.
+const LISTS: [(usize, usize); 2] = [(150, 500), (3, 9_000)];
+
+/// More votes than these move a parameter.
+const HALF: usize = 512;
+
+/// The parameters 1 to 9 in order; the step 0 is computed.
+const LEAST: [i32; 9] = [0, 0, 16_384, 16_384, 0, 0, 0, 0, 2];
+const GREATEST: [i32; 9] =
+    [2_500_000, 10_000, 1_073_741_823, 1_073_741_823, 1_073_741_823, 1_073_741_823, 1_073_741_823, 1_073_741_823, 2_048];
+const STEP: [i32; 9] = [25_000, 10, 0, 0, 0, 0, 0, 0, 1];
+
+/// What the lists must meet, so that the statement is not tried on quiet ones alone.
+const MET: [&str; 8] = [
+    "up",
+    "down",
+    "beyond the greatest",
+    "beneath the least",
+    "held at the greatest",
+    "held at the least",
+    "more than half without the boundary header",
+    "just half",
+];
+
+pub fn run(random: &mut Random) -> Report {
+    let mut report = Report::default();
+    let mut met = BTreeMap::new();
+    for (count, calls) in LISTS {
+        (0..count).for_each(|_| list(random, calls, &mut report, &mut met));
+    }
+    for name in MET {
+        assert!(met.contains_key(name), "no boundary was met where a parameter was {name}: {met:?}");
+    }
+    report
+}
+
+fn list(random: &mut Random, calls: usize, report: &mut Report, met: &mut BTreeMap<&'static str, u64>) {
+    let height = 1_024 * (1 + random.below(1 << 20) as u32);
+    let mut state = open(height, from_map(&beginning(random))).expect("an opening");
+    let mut bytes = state_bytes(&state, IN_ORDER);
+    let mut before: Vec<Votes> = Vec::new();
+    for _ in 0..calls {
+        let record = record(random, &state);
+        report.compare(0x3d, &[&bytes[..], &record].concat());
+        let Ok(next) = state.replay(&record) else { continue };
+        let (old, new) = (to_map(&state.table), to_map(&next.table));
+        for (id, value) in (1..=9).filter_map(|id| old.get(&id).map(|&value| (id, value))) {
+            let said = moved(id, value, &before, met);
+            report.compare_step((id, value), before.as_flattened(), new.get(&id).copied(), said);
+        }
+        bytes = state_bytes(&next, first_votes(&record));
+        before = read_record(&record).expect("a record").0.headers().into_iter().map(|(_, votes)| votes).collect();
+        state = next;
+    }
+}
+
+/// What becomes of a parameter, by the epoch before.
+fn moved(id: i8, value: i32, before: &[Votes], met: &mut BTreeMap<&'static str, u64>) -> i32 {
+    let at = id as usize - 1;
+    let [up, down] = [id as u8, id.wrapping_neg() as u8].map(|vote| counted(vote, before));
+    let (below, above) = (value < GREATEST[at], value > LEAST[at]);
+    let step = if STEP[at] == 0 { (value / 100).max(1) } else { STEP[at] };
+    assert!(up == 0 || down == 0, "votes for {id} and against it are counted");
+    let said = match (below && up > HALF, above && down > HALF) {
+        (true, _) => value + step,
+        (_, true) => value - step,
+        _ => value,
+    };
+    let silent = |vote| counted(vote, before) == 0 && voting(vote, before) > HALF;
+    let now = [
+        said > value,
+        said < value,
+        below && said > GREATEST[at],
+        above && said < LEAST[at],
+        !below && up > HALF,
+        !above && down > HALF,
+        silent(id as u8) || silent(id.wrapping_neg() as u8),
+        up == HALF || down == HALF,
+    ];
+    MET.into_iter().zip(now).filter(|(_, is)| *is).for_each(|(name, _)| *met.entry(name).or_default() += 1);
+    said
+}
+
+/// The headers that vote so, if the first one does.
+fn counted(vote: u8, headers: &[Votes]) -> usize {
+    if headers.first().is_some_and(|first| first.contains(&vote)) {
+        voting(vote, headers)
+    } else {
+        0
+    }
+}
+
+fn voting(vote: u8, headers: &[Votes]) -> usize {
+    headers.iter().filter(|votes| votes.contains(&vote)).count()
+}
+
+/// Mainnet's first table, with or without entry 9; in every second one the values stand near an end.
+fn beginning(random: &mut Random) -> Map {
+    let mut map = to_map(&open_mainnet().table);
+    if random.one_in(2) {
+        map.insert(9, 30);
+    }
+    if random.one_in(2) {
+        for id in (1..=9).filter(|id| map.contains_key(id)).collect::<Vec<i8>>() {
+            let (least, greatest) = (LEAST[id as usize - 1], GREATEST[id as usize - 1]);
+            let away = random.pick(&[0, 1, 3, 170, 30_000]).min(greatest - least);
+            map.insert(id, if random.one_in(2) { least + away } else { greatest - away });
+        }
+    }
+    map
+}
+
+/// A record of two votes near the edge, some of them without the boundary header's; its body carries the table that is computed. Some
+/// are spoiled.
+fn record(random: &mut Random, state: &State) -> Vec<u8> {
+    let votes = epoch(random, &to_map(&state.table));
+    let computed = state.boundary(votes[0], &[]).unwrap_or_else(|_| state.table.clone());
+    let mut parts = Parts { height: state.next, fields: rules::pack_parameters(&to_map(&computed)), votes };
+    if random.one_in(8) {
+        match random.below(3) {
+            0 => parts.height = parts.height.wrapping_add(1_024),
+            1 => parts.fields[0].1 = random.bytes(4),
+            _ => parts.votes[random.below(HEADERS)] = [1, 1, 2],
+        }
+    }
+    if random.one_in(20) {
+        parts.fields.push((UPDATE, vec![0, 0]));
+    }
+    parts.bytes()
+}
+
+/// Votes for two parameters of the table, each in as many headers as are drawn, and in the others now and then against it.
+fn epoch(random: &mut Random, map: &Map) -> Vec<Votes> {
+    let mut ids: Vec<i8> = map.keys().copied().filter(|&id| id <= 9).collect();
+    ids.sort_unstable();
+    let mut votes = vec![[0; 3]; HEADERS];
+    for slot in 0..2 {
+        let id = ids.remove(random.below(ids.len()));
+        let vote = if random.one_in(2) { id } else { -id } as u8;
+        let count = random.pick(&[0, 511, 512, 513, 514, 700, 1_023, 1_024]);
+        let against = random.one_in(2);
+        let first = if random.one_in(5) { 1 } else { 0 };
+        for (i, header) in votes.iter_mut().enumerate() {
+            header[slot] = match i {
+                _ if i < first => 0,
+                _ if i < first + count => vote,
+                _ if against => vote.wrapping_neg(),
+                _ => 0,
+            };
+        }
+    }
+    if random.one_in(12) {
+        votes.iter_mut().take(random.pick(&[1, 513, 1_024])).for_each(|header| header[2] = 120);
+    }
+    votes
+}
