@@ -1,4 +1,4 @@
--- The epochs of a replay as the rounds see them: who votes 120, what is counted, and the forced version. docs/RULES.md, "Replay".
+-- The epochs of a replay as the rounds see them: who votes 120, what is counted, the last one, and the forced version. docs/RULES.md, "Replay".
 -- Assumes nothing.
 use Prim.Native.Nat.{ℕ}
 use mathlib.Core.Bool.{Bool, cond, _&&_}
