@@ -21,7 +21,7 @@ use Rattle.voting.specs.declared.ordinary.Voted.{Voted}
 use Rattle.voting.specs.Common.{eqZ, Each, Pairwise, Bytes}
 use Rattle.voting.specs.Settings.{votingLength, changeApproved}
 use Rattle.voting.specs.Table.{withFork, lookup, update}
-use Rattle.voting.specs.Header.{AllLegal}
+use Rattle.voting.specs.Header.{softForkVote, AllLegal}
 use Rattle.voting.specs.Tally.{headers, whole, seeded, entries, firstCount, countedFor}
 use Rattle.voting.specs.Ordinary.{leastOf, greatestOf, parameter, raised, lowered, moved, known, counts, voted, ordinaryVotes}
 use Rattle.voting.specs.Boundary.{isNumber, isAbsent, withSubblocks, boundaryOf}
@@ -87,7 +87,7 @@ module _ (g : VotingConfig) (q : ℕ) (z : ℤ) where
     up-here n =
         let d = none-of (negsuc q) refl es others in
         record {
-          value = rw (lt-ltb (suc q) 120 (omega arith), lt-ltb 0 (suc q) (omega arith), eq-eqb (suc q) (suc q) refl, d, none-approved g) refl;
+          value = rw (lt-ltb (suc q) softForkVote (omega arith), lt-ltb 0 (suc q) (omega arith), eq-eqb (suc q) (suc q) refl, d, none-approved g) refl;
           one-way = inr d;
         }
 
