@@ -1,8 +1,8 @@
 // Runs streams of records. For each name of its arguments it runs the loop of program `replay` on the file NAME.records, with several sizes of
 // the bytes that are read and written at a time, and compares what was written with the file NAME.lines. It prints a line for each name, and
 // how many of them differ. docs/VECTORS.md, "Streams".
+use codec::output;
 use codec::signed;
-use rows::bytes;
 
 // What is written goes into a file of the folder that it runs in, whose name is taken away at once.
 fn open_output() -> i32 {
@@ -16,18 +16,26 @@ fn open_output() -> i32 {
     fd
 }
 
+// The bytes up to a position; all where there are fewer.
+fn part(s: &[u8], n: usize) -> &[u8] {
+    if s.len() < n {
+        return s;
+    }
+    &s[0..n]
+}
+
 // Opens the file of a name with an ending; below 0 where it can't be opened.
 fn open(name: &[u8], ending: &[u8]) -> i32 {
     let mut path = io::buffer();
-    let k = bytes::put_bytes(&mut path, 0, name);
-    let n = bytes::put_bytes(&mut path, k, ending);
-    open_path(&path, n)
+    output::put_bytes(&mut path, 0, name);
+    output::put_bytes(&mut path, name.len(), ending);
+    open_path(&path, name.len() + ending.len())
 }
 
 fn open_path(path: &[u8; 4096], n: usize) -> i32 {
-    let fd = os::open_read(bytes::part(path, 0, n));
+    let fd = os::open_read(part(path, n));
     if fd < 0 {
-        os::fail(bytes::part(path, 0, n));
+        os::fail(part(path, n));
     }
     fd
 }
@@ -37,7 +45,7 @@ fn holds(fd: i32, lines: &[u8]) -> bool {
     libc::lseek(fd, 0, libc::SEEK_SET);
     let mut got = [0u8; 0x1_0001];
     let n = io::read_full(fd, &mut got);
-    check::same(bytes::part(&got, 0, n), lines)
+    check::same(part(&got, n), lines)
 }
 
 fn run(from: i32, to: i32, piece: usize, room: usize, lines: &[u8]) -> bool {
@@ -85,7 +93,7 @@ fn run_lines(name: &[u8], lines: &[u8; 0x1_0001], n: usize) -> bool {
         io::write_all(1, b" too long");
         return false;
     }
-    run_sizes(name, bytes::part(lines, 0, n))
+    run_sizes(name, part(lines, n))
 }
 
 fn run_pair(name: &[u8]) -> bool {
