@@ -1,12 +1,12 @@
 // Bodies, parameters and updates written. The answer is how many bytes were written, or minus the refusal's number.
 use crate::answer;
-use extension::encode;
-use extension::pack;
 use wire::map;
 use wire::numbers;
+use writers::encode;
+use writers::pack;
 ghost use mathlib.Core.Path.{_≡_};
-ghost use Rattle.extension.specs.Encode.{encodeUpdate, encodeRules};
-ghost use Rattle.extension.specs.Pack.{packExtension, packParameters};
+ghost use Rattle.writers.specs.Encode.{encodeUpdate, encodeRules};
+ghost use Rattle.writers.specs.Pack.{packExtension, packParameters};
 ghost use Rattle.wire.specs.Numbers.{bytesAt};
 ghost use Rattle.wire.specs.Map.{mapOf};
 ghost use Rattle.exports.specs.Reply.{reply, sized};

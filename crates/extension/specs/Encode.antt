@@ -1,6 +1,7 @@
--- Settings updates written, and read back. docs/RULES.md, "Settings update" and "Writers and rest".
+-- Settings updates as they are written, and an update read and written again. docs/RULES.md, "Settings update" and "Writers and rest". What
+-- the writers answer stands in crates/writers/specs/Encode.antt.
 -- Assumes nothing.
-use Prim.Native.Nat.{ℕ, zero, suc, _+_, _-_, _≤_, _<_}
+use Prim.Native.Nat.{ℕ, zero, suc, _+_, _-_, _<_}
 use mathlib.Core.Bool.{Bool, false, cond, _&&_, _||_}
 use mathlib.Core.Path.{_≡_}
 use mathlib.Core.List.{List, [], _∷_, _++_}
@@ -10,14 +11,12 @@ use lib.Signed.{ltZ}
 use lib.ListN.{length, take, drop}
 use Rattle.codec.specs.Refusal.{updateUnreadable, inputLong, statusRuleLow}
 use Rattle.codec.specs.Vlq.{vlqAt, vlqBytes}
-use Rattle.codec.specs.Output.{Outcome, writing}
 use Rattle.codec.specs.declared.vlq.Read.{Read}
 use Rattle.codec.specs.declared.vlq.Read.the-variants.{Value, Unreadable}
 use Rattle.extension.specs.declared.update.StatusAt.{StatusAt}
 use Rattle.extension.specs.declared.update.StatusAt.the-variants.{HasStatus, NoStatus}
 use Rattle.extension.specs.declared.update.Update.{Update}
 use Rattle.extension.specs.Section.{part, any}
-use Rattle.extension.specs.Mandatory.{mandatoryRule}
 use Rattle.extension.specs.Update.{Status, statusAt, updateOf, rulesIn, statusesIn}
 
 -- the offset of a rule id from 1,000 up
@@ -36,12 +35,6 @@ statusBytes x = vlqBytes (offsetOf (x .rule)) ++ vlqBytes (length (x .raw)) ++ x
 unfoldable pub statusesBytes : List Status → List ℕ
 statusesBytes [] = []
 statusesBytes (x ∷ xs) = statusBytes x ++ statusesBytes xs
-
--- how many bytes statuses of these rule ids and sizes take
-unfoldable pub statusesSize : List ℤ → List ℕ → ℕ
-statusesSize [] sizes = 0
-statusesSize (i ∷ ids) [] = 0
-statusesSize (i ∷ ids) (n ∷ sizes) = length (vlqBytes (offsetOf i)) + length (vlqBytes n) + 1 + n + statusesSize ids sizes
 
 unfoldable pub encoded : List ℕ → List Status → List ℕ
 encoded rules statuses = vlqBytes (length rules) ++ rulesBytes rules ++ vlqBytes (length statuses) ++ statusesBytes statuses
@@ -75,23 +68,6 @@ unfoldable pub encodeRefusal : List ℕ → List ℤ → List ℕ → List ℕ �
 encodeRefusal rules ids codes sizes raw =
     cond (tooLarge rules ids codes sizes) inputLong
     (cond (any lowRule ids) statusRuleLow (cond (agree ids codes sizes raw) 0 updateUnreadable))
-
-unfoldable pub encodeUpdate : List ℕ → List ℤ → List ℕ → List ℕ → List ℕ → List ℕ → Outcome
-encodeUpdate rules ids codes sizes raw cells =
-    writing (encodeRefusal rules ids codes sizes raw) (encoded rules (statusList ids codes sizes raw)) cells
-
--- rules alone
-unfoldable pub encodeRules : List ℕ → List ℕ → Outcome
-encodeRules rules cells = writing (cond (ltb 65536 (length rules)) inputLong 0) (encoded rules []) cells
-
--- what was encoded, if it is not too long to be read and no rule is mandatory, is read back
-pub record EncodedBack (rules : List ℕ) (statuses : List Status) : Type 0 where
-  pub parsed : updateOf (encoded rules statuses) .refusal ≡ 0
-  pub same-rules : rulesIn (encoded rules statuses) (updateOf (encoded rules statuses) .update) ≡ rules
-  pub same-statuses : statusesIn (encoded rules statuses) (updateOf (encoded rules statuses) .update) ≡ statuses
-
-abbrev pub EncodedAgain : List ℕ → List Status → Type 0
-EncodedAgain rules statuses = length (encoded rules statuses) ≤ 65536 → any mandatoryRule rules ≡ false → EncodedBack rules statuses
 
 -- statuses taken apart, as a caller hands them over
 unfoldable pub idsOf : List Status → List ℤ

@@ -1,24 +1,18 @@
--- Bodies and parameters written, and read back. docs/RULES.md, "Writers and rest".
+-- Lists of fields and bodies as they are written, and a body read and written again. docs/RULES.md, "Writers and rest". What the writers
+-- answer stands in crates/writers/specs/Pack.antt.
 -- Assumes nothing.
-use Prim.Native.Nat.{ℕ, zero, suc, _+_, _%_, _≤_}
+use Prim.Native.Nat.{ℕ, zero, suc, _+_}
 use mathlib.Core.Bool.{Bool, cond}
 use mathlib.Core.Path.{_≡_}
-use mathlib.Core.List.{List, [], _∷_, _++_}
-use lib.Dec.{ltb, leb, eqb}
+use mathlib.Core.List.{List, _++_}
+use lib.Dec.{ltb, leb}
 use lib.ListN.{length, getD}
 use Rattle.codec.specs.Refusal.{fieldHeaderCut, valueCut, inputLong, writtenValueLong}
-use Rattle.codec.specs.Signed.{bitsOf}
-use Rattle.codec.specs.BigEndian.{bigEndianBytes}
 use Rattle.codec.specs.Vlq.{vlqBytes}
-use Rattle.codec.specs.Output.{Outcome, writing, writes}
-use Rattle.voting.specs.declared.table.Value.{Value}
-use Rattle.voting.specs.declared.table.Value.the-variants.{Absent, Number}
 use Rattle.extension.specs.declared.section.Section.{Section}
-use Rattle.extension.specs.declared.pack.Survey.{Survey}
-use Rattle.extension.specs.declared.parameters.ParameterMap.{ParameterMap}
+use Rattle.extension.specs.declared.body.Survey.{Survey}
 use Rattle.extension.specs.Section.{Reading, got, bad, Listing, done, after, items, refusalOf, part, any}
-use Rattle.extension.specs.Body.{Field, extensionOf, fieldsOf, headerId}
-use Rattle.extension.specs.Parameters.{noParameters, entryOf, parametersIn}
+use Rattle.extension.specs.Body.{Field, extensionOf, headerId}
 
 -- a field of a list that is to be written: the key, a length byte, and a value of any such length
 unfoldable pub wireAt : List ℕ → ℕ → Reading Field
@@ -54,15 +48,6 @@ packRefusal l = surveyRefusal (surveyed l)
 unfoldable pub packed : List ℕ → List ℕ → List ℕ
 packed id fields = id ++ vlqBytes (length (items (wireFields fields))) ++ fields
 
-unfoldable pub packExtension : List ℕ → List ℕ → List ℕ → Outcome
-packExtension id fields cells = writing (packRefusal (wireFields fields)) (packed id fields) cells
-
--- what was packed, if it is not too long to be read, is read back
-pub record PackedBack (id fields : List ℕ) : Type 0 where
-  pub parsed : extensionOf (packed id fields) .refusal ≡ 0
-  pub same-id : headerId (packed id fields) ≡ id
-  pub same-fields : fieldsOf (packed id fields) ≡ items (wireFields fields)
-
 -- a body that is read, with its count in shortest form and no byte after the last field, is what the writer gives for its id and its fields
 pub record BodyBack (body : List ℕ) (x : Section) : Type 0 where
   pub accepted : packRefusal (wireFields (part body (x .begin) (x .end))) ≡ 0
@@ -71,25 +56,3 @@ pub record BodyBack (body : List ℕ) (x : Section) : Type 0 where
 abbrev pub BodyAgain : List ℕ → Section → Type 0
 BodyAgain body x =
     extensionOf body .refusal ≡ 0 → part body 32 (x .begin) ≡ vlqBytes (x .count) → x .end ≡ length body → BodyBack body x
-
--- a parameter as a field: key 0 and the id, a length of 4, and the number; 124 is dropped
-unfoldable pub entryBytes : ℕ → Value → List ℕ
-entryBytes id Absent = []
-entryBytes id (Number z) = cond (eqb id 124) [] (0 ∷ id ∷ 4 ∷ bigEndianBytes 4 (bitsOf 32 z))
-
--- n ids from one on; 0 follows 255
-unfoldable pub entriesFrom : ℕ → ℕ → ParameterMap → List ℕ
-entriesFrom zero id m = []
-entriesFrom (suc n) id m = entryBytes id (entryOf m id) ++ entriesFrom n ((id + 1) % 256) m
-
--- the order of signed ids: from -128, which is the byte 128, to 127
-unfoldable pub parameterBytes : ParameterMap → List ℕ
-parameterBytes m = entriesFrom 256 128 m
-
-unfoldable pub packParameters : ParameterMap → List ℕ → Outcome
-packParameters m cells = writes (parameterBytes m) cells
-
--- the parameters that were written are a list of fields, and are read back
-pub record ParametersBack (m : ParameterMap) : Type 0 where
-  pub whole : packRefusal (wireFields (parameterBytes m)) ≡ 0
-  pub same : (id : ℕ) → id ≤ 255 → entryOf (parametersIn (items (wireFields (parameterBytes m))) noParameters) id ≡ cond (eqb id 124) Absent (entryOf m id)

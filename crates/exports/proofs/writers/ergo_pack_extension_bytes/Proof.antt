@@ -1,6 +1,6 @@
 use mathlib.Core.List.{List}
 use Prim.Native.Nat.{ℕ}
-use Rattle.extension.specs.Pack.{packExtension}
+use Rattle.writers.specs.Pack.{packExtension}
 use mathlib.Core.Path.{_≡_, refl, sym, ap, _∙_}
 use Rattle.exports.proofs.Laws.{sized-is}
 use borrow.Author.Needs.{needs}

@@ -1,5 +1,5 @@
 use Rattle.extension.specs.declared.parameters.ParameterMap.{ParameterMap}
-use Rattle.extension.specs.Pack.{packParameters}
+use Rattle.writers.specs.Pack.{packParameters}
 use mathlib.Core.Path.{_≡_, refl, sym, ap, _∙_}
 use Rattle.exports.proofs.Laws.{sized-is}
 use borrow.Author.Needs.{needs}

@@ -1,0 +1,4 @@
+pub mod Pack
+pub mod PackTrip
+pub mod Encode
+pub mod EncodeTrip

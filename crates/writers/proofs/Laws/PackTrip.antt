@@ -1,0 +1,376 @@
+-- Bodies and parameters there and back: a packed body is read as the fields that were handed over, and parameters that were written are
+-- read back.
+-- Assumes nothing.
+use mathlib.Core.Path.{_≡_, refl, sym, ap, _∙_, subst, subst⁻¹}
+use mathlib.Core.Bool.{Bool, true, false, cond}
+use mathlib.Core.List.{List, [], _∷_, _++_}
+use Prim.Native.Nat.{ℕ, zero, suc, _+_, _-_, _%_, _≤_, _<_}
+use native.Mathlib.Nat.{add-zero}
+use native.Mathlib.Numerals.{sub-one}
+use native.Mathlib.Omega.{arith}
+use mir.Syntax.{w32}
+use mir.Val.{SFits}
+use borrow.Author.Tests.{le-ltb, ltb-true, ltb-false, leb-true, leb-false, eqb-true, eqb-false}
+use lib.Dec.{ltb, leb, eqb}
+use lib.IntN.{ℤ}
+use lib.ListN.{length, getD, drop, length-drop, length-append, length-set, length-replicate, getD-replicate}
+use lib.Seq.{getD-drop, getD-set-same, getD-set-other, drop-drop, take-at, drop-at, take-append-le, drop-append-le}
+use Rattle.codec.specs.Refusal.{fieldHeaderCut, valueCut, inputLong, writtenValueLong}
+use Rattle.codec.specs.Vlq.{vlqBytes}
+use Rattle.codec.specs.Signed.{bitsOf}
+use Rattle.codec.specs.BigEndian.{bigEndianBytes}
+use Rattle.codec.proofs.Laws.BigEndian.{bytes-length, number-back}
+use Rattle.codec.proofs.Laws.VlqTrip.{written-read-at}
+use Rattle.voting.specs.Table.{slot}
+use Rattle.voting.specs.declared.table.Value.{Value}
+use Rattle.voting.specs.declared.table.Value.the-variants.{Absent, Number}
+use Rattle.voting.proofs.Laws.Tests.{by-test, neither}
+use Rattle.extension.specs.declared.body.Survey.{Survey}
+use Rattle.extension.specs.declared.parameters.ParameterMap.{ParameterMap}
+use Rattle.extension.specs.Section.{bad, Listing, done, stop, item, listing, items, refusalOf, section, closed, sectionItems, any}
+use Rattle.extension.specs.Body.{Field, parameterKey, readField, fieldsFrom, extensionOf, fieldsOf, headerId}
+use Rattle.extension.specs.Parameters.{noParameters, entryOf, store, numberIn, taken, parametersIn}
+use Rattle.extension.proofs.Laws.Section.{listing-item}
+use Rattle.extension.specs.Pack.{wireAt, wireList, wireFields, longValue, surveyed, surveyRefusal, packRefusal, packed}
+use Rattle.extension.proofs.Laws.Pack.{sizeAt, fieldThere, wire-header-cut, wire-value-cut, wire-here, value-length, wire-none, wire-end, wire-stop, wire-item}
+use Rattle.extension.proofs.Laws.PackTrip.{field-here, size-there, field-there, Lists, wire-past, fine, Held, Sound}
+use Rattle.writers.specs.Pack.{PackedBack, entryBytes, entriesFrom, parameterBytes, ParametersBack}
+
+-- a listing that ends with no refusal; and a listing with its last position further on by b
+abbrev Whole : Listing Field → Type 0
+Whole (done at) = Unit {0}
+Whole (stop e) = ⊥
+Whole (item f l) = Whole l
+
+abbrev moved : ℕ → Listing Field → Listing Field
+moved b (done at) = done (b + at)
+moved b (stop e) = stop e
+moved b (item f l) = item f (moved b l)
+
+moved-items : (b : ℕ) (l : Listing Field) → items (moved b l) ≡ items l
+unfolding items
+moved-items b (done at) = refl
+moved-items b (stop e) = refl
+moved-items b (item f l) = ap (λ (fs : List Field). f ∷ fs) (moved-items b l)
+
+-- what a section says once its items are read
+abbrev lastOf : Listing Field → ℕ
+lastOf (done at) = at
+lastOf (stop e) = 0
+lastOf (item f l) = lastOf l
+
+closed-whole : (n b k : ℕ) (l : Listing Field) → Whole l → closed n b (moved k l) ≡ record { refusal = 0; section = section n b (k + lastOf l) }
+unfolding closed
+closed-whole n b k (done at) w = refl
+closed-whole n b k (stop e) w = absurd w
+closed-whole n b k (item f l) w = closed-whole n b k l w
+
+-- the three things that may stand at a position of a list of fields
+by-wire : {P : Type 0} (s : List ℕ) (at : ℕ) → (wireAt s at ≡ bad fieldHeaderCut → P) → (wireAt s at ≡ bad valueCut → P) → (at + 3 + sizeAt s at ≤ length s → P) → P
+by-wire s at f g h =
+    by-test (ltb (length s) (at + 3)) (λ e. f (wire-header-cut s at (ltb-true (length s) (at + 3) e)))
+    (λ e. by-test (ltb (length s) (at + 3 + sizeAt s at))
+    (λ q. g (wire-value-cut s at (ltb-false (length s) (at + 3) e) (ltb-true (length s) (at + 3 + sizeAt s at) q)))
+    (λ q. h (ltb-false (length s) (at + 3 + sizeAt s at) q)))
+
+-- the fields of a list that is not cut and has no long value are what a body's reader takes from where the list begins
+module _ (body : List ℕ) (b : ℕ) where
+  abbrev Reads : ℕ → Listing Field → Type 0
+  Reads at l = refusalOf l ≡ 0 → any longValue (items l) ≡ false → Whole l × (listing (readField body) (length (items l)) (b + at) ≡ moved b l)
+
+  one-field : (at : ℕ) (l : Listing Field) → at + 3 + sizeAt (drop b body) at ≤ length (drop b body) → Reads (at + 3 + sizeAt (drop b body) at) l
+      → Reads at (item (fieldThere (drop b body) at) l)
+  unfolding refusalOf items any longValue
+  one-field at l i f r a =
+      let s = drop b body in
+      let v = value-length s at i in
+      let n = neither (ltb 64 (length (fieldThere s at .value))) (any longValue (items l)) a in
+      let m = ltb-false 64 (length (fieldThere s at .value)) (n .0) in
+      let rest = f r (n .1) in
+      (rest .0, reads v m (rest .1))
+    where
+      reads : length (fieldThere (drop b body) at .value) ≡ sizeAt (drop b body) at → length (fieldThere (drop b body) at .value) ≤ 64
+          → listing (readField body) (length (items l)) (b + (at + 3 + sizeAt (drop b body) at)) ≡ moved b l
+          → listing (readField body) (suc (length (items l))) (b + at) ≡ item (fieldThere (drop b body) at) (moved b l)
+      reads v m e =
+          let z = size-there body b at in
+          let d = length-drop b body in
+          let next : b + at + 3 + sizeAt body (b + at) ≡ b + (at + 3 + sizeAt (drop b body) at) = omega (arith, z) in
+          let h = field-here body (b + at) (omega (arith, z, d, i)) (omega (arith, z, v, m)) in
+          listing-item (readField body) (suc (length (items l))) (b + at) (omega arith) (fieldThere (drop b body) at) (b + (at + 3 + sizeAt (drop b body) at))
+          (h ∙ rw (← field-there body b at, next)) ∙ rw (sub-one, e)
+
+  no-field : (at : ℕ) → Reads at (done at)
+  unfolding items listing
+  no-field at r a = (tt, refl)
+
+  reads-wire : (k at : ℕ) → Reads at (wireList k (drop b body) at)
+  unfolding refusalOf
+  reads-wire zero at = subst⁻¹ (Reads at) (wire-none (drop b body) 0 at (omega arith)) (no-field at)
+  reads-wire (suc k) at =
+      let s = drop b body in
+      let p : 0 < suc k = omega arith in
+      by-test (leb (length s) at) (λ e. subst⁻¹ (Reads at) (wire-end s (suc k) at p (leb-true (length s) at e)) (no-field at))
+      (λ e. let l : at < length s = leb-false (length s) at e in
+      by-wire s at
+      (λ q. subst⁻¹ (Reads at) (wire-stop s (suc k) at p l fieldHeaderCut q) (λ r a. absurd (omega arith)))
+      (λ q. subst⁻¹ (Reads at) (wire-stop s (suc k) at p l valueCut q) (λ r a. absurd (omega arith)))
+      (λ i. subst⁻¹ (Reads at) (wire-item s (suc k) at p l (fieldThere s at) (at + 3 + sizeAt s at) (wire-here s at i))
+      (rw sub-one (one-field at (wireList k s (at + 3 + sizeAt s at)) i (reads-wire k (at + 3 + sizeAt s at))))))
+
+-- what a list that is not refused has: at most 65,536 fields, no long value, and no cut
+accepted-survey : (w : Survey) → surveyRefusal w ≡ 0 → (w .count ≤ 65536) × (w .long ≡ false) × (w .cut ≡ 0)
+unfolding surveyRefusal
+accepted-survey w = go (ltb 65536 (w .count)) (w .long) refl refl
+  where
+    go : (s t : Bool) → ltb 65536 (w .count) ≡ s → w .long ≡ t → cond s inputLong (cond t writtenValueLong (w .cut)) ≡ 0
+        → (w .count ≤ 65536) × (w .long ≡ false) × (w .cut ≡ 0)
+    go true t p q e = absurd (omega arith)
+    go false true p q e = absurd (omega arith)
+    go false false p q e = (ltb-false 65536 (w .count) p, q, e)
+
+accepted-fields : (l : Listing Field) → packRefusal l ≡ 0 → (length (items l) ≤ 65536) × (any longValue (items l) ≡ false) × (refusalOf l ≡ 0)
+unfolding packRefusal surveyed
+accepted-fields l e = accepted-survey (surveyed l) e
+
+-- a body that is an id, a count and a list of as many fields
+module _ (id fields : List ℕ) (l : length id ≡ 32) (ok : packRefusal (wireFields fields) ≡ 0) (room : length (packed id fields) ≤ 65536) where
+  abbrev many : ℕ
+  many = length (items (wireFields fields))
+
+  abbrev full : List ℕ
+  full = packed id fields
+
+  abbrev first : ℕ
+  first = 32 + length (vlqBytes many)
+
+  front : length (id ++ vlqBytes many) ≡ first
+  front = rw (length-append id (vlqBytes many), l)
+
+  after-id : drop 32 full ≡ vlqBytes many ++ fields
+  unfolding packed
+  after-id = drop-append-le 32 (id ++ vlqBytes many) fields (omega (arith, front)) ∙ rw (drop-at id (vlqBytes many) 32 l)
+
+  long : 32 ≤ length full
+  unfolding packed
+  long = omega (arith, length-append (id ++ vlqBytes many) fields, front)
+
+  after-count : drop first full ≡ fields
+  unfolding packed
+  after-count = drop-at (id ++ vlqBytes many) fields first front
+
+  reads-all : Whole (wireFields fields) × (listing (readField full) many first ≡ moved first (wireFields fields))
+  unfolding wireFields
+  reads-all =
+      let f = accepted-fields (wireFields fields) ok in
+      rw (after-count, add-zero) at (reads-wire full first (length fields) 0 (rw after-count (f .2)) (rw after-count (f .1)))
+
+  parsed-is : extensionOf full ≡ record { refusal = 0; section = section many first (first + lastOf (wireFields fields)) }
+  unfolding extensionOf fieldsFrom
+  parsed-is =
+      let f = accepted-fields (wireFields fields) ok in
+      rw (le-ltb 65536 (length full) room, le-ltb (length full) 32 long, written-read-at 32 many 32 full fields (omega arith) (omega (arith, f .0)) after-id, reads-all .1)
+      (closed-whole many first first (wireFields fields) (reads-all .0))
+
+  pub packed-back : PackedBack id fields
+  unfolding fieldsOf headerId sectionItems packed
+  packed-back = record {
+    parsed = rw parsed-is;
+    same-id = rw parsed-is (take-append-le 32 (id ++ vlqBytes many) fields (omega (arith, front)) ∙ take-at id (vlqBytes many) 32 l);
+    same-fields = rw (parsed-is, reads-all .1) (moved-items first (wireFields fields));
+  }
+
+-- Parameters. The fields that the bytes of parameters are.
+abbrev entryField : ℕ → ℤ → Field
+entryField id z = record { key0 = 0; key1 = id; value = bigEndianBytes 4 (bitsOf 32 z) }
+
+abbrev entryFields : ℕ → Value → List Field
+entryFields id Absent = []
+entryFields id (Number z) = cond (eqb id 124) [] (entryField id z ∷ [])
+
+unfoldable fieldsFor : ℕ → ℕ → ParameterMap → List Field
+fieldsFor zero id m = []
+fieldsFor (suc n) id m = entryFields id (entryOf m id) ++ fieldsFor n ((id + 1) % 256) m
+
+-- none of them long, and no more of them than ids
+entry-short : (id : ℕ) (v : Value) (fs : List Field) → any longValue fs ≡ false → any longValue (entryFields id v ++ fs) ≡ false
+unfolding any longValue bigEndianBytes
+entry-short id Absent fs e = e
+entry-short id (Number z) fs e = go (eqb id 124)
+  where
+    go : (t : Bool) → any longValue (cond t [] (entryField id z ∷ []) ++ fs) ≡ false
+    go true = e
+    go false = e
+
+all-short : (m : ParameterMap) (n id : ℕ) → any longValue (fieldsFor n id m) ≡ false
+unfolding fieldsFor any
+all-short m zero id = refl
+all-short m (suc n) id = entry-short id (entryOf m id) (fieldsFor n ((id + 1) % 256) m) (all-short m n ((id + 1) % 256))
+
+entry-once : (id : ℕ) (v : Value) (fs : List Field) → length (entryFields id v ++ fs) ≤ suc (length fs)
+entry-once id Absent fs = omega arith
+entry-once id (Number z) fs = go (eqb id 124)
+  where
+    go : (t : Bool) → length (cond t [] (entryField id z ∷ []) ++ fs) ≤ suc (length fs)
+    go true = omega arith
+    go false = omega arith
+
+all-once : (m : ParameterMap) (n id : ℕ) → length (fieldsFor n id m) ≤ n
+unfolding fieldsFor
+all-once m zero id = omega arith
+all-once m (suc n) id = omega (arith, entry-once id (entryOf m id) (fieldsFor n ((id + 1) % 256) m), all-once m n ((id + 1) % 256))
+
+-- one parameter's bytes at a position, and the list that goes on behind them
+module _ (s : List ℕ) (at id : ℕ) (z : ℤ) (rest : List ℕ) (here : drop at s ≡ (0 ∷ id ∷ 4 ∷ bigEndianBytes 4 (bitsOf 32 z)) ++ rest) where
+  entry-size : sizeAt s at ≡ 4
+  entry-size = sym (getD-drop at s 2 0) ∙ rw here
+
+  entry-read : fieldThere s at ≡ entryField id z
+  unfolding bigEndianBytes
+  entry-read =
+      let k0 : getD s at 0 ≡ 0 = ap (λ (i : ℕ). getD s i 0) (sym (add-zero at)) ∙ sym (getD-drop at s 0 0) ∙ rw here in
+      let k1 : getD s (at + 1) 0 ≡ id = sym (getD-drop at s 1 0) ∙ rw here in
+      let v : drop (at + 3) s ≡ bigEndianBytes 4 (bitsOf 32 z) ++ rest = sym (drop-drop 3 at s) ∙ rw here in
+      let i : at + 3 + 4 - (at + 3) ≡ 4 = omega arith in
+      rw (k0, k1, entry-size, i, v)
+
+  entry-rest : drop (at + 7) s ≡ rest
+  unfolding bigEndianBytes
+  entry-rest = sym (drop-drop 7 at s) ∙ rw here
+
+  entry-room : at + 7 ≤ length s
+  unfolding bigEndianBytes
+  entry-room =
+      let e : length (drop at s) ≡ 7 + length rest = rw here (omega arith) in
+      omega (arith, length-drop at s, e)
+
+  wire-entry : (k : ℕ) (fs : List Field) → length s ≤ at + suc k → Lists fs (wireList k s (at + 7)) → Lists (entryField id z ∷ fs) (wireList (suc k) s at)
+  unfolding items refusalOf
+  wire-entry k fs h r =
+      let n : at + 3 + sizeAt s at ≡ at + 7 = omega (arith, entry-size) in
+      let w = wire-here s at (omega (arith, entry-size, entry-room)) in
+      subst⁻¹ (Lists (entryField id z ∷ fs))
+      (wire-item s (suc k) at (omega arith) (omega (arith, entry-room)) (entryField id z) (at + 7) (w ∙ rw (entry-read, n)))
+      (rw sub-one (ap (λ (gs : List Field). entryField id z ∷ gs) (r .0), r .1))
+
+-- the bytes of one parameter or none, then bytes that are read as fields
+module _ (s : List ℕ) (at id : ℕ) (rest : List ℕ) (fs : List Field) where
+  abbrev Follow : ℕ → ℕ → Type 0
+  Follow k at = drop at s ≡ rest → length s ≤ at + k → Lists fs (wireList k s at)
+
+  one-more : (z : ℤ) (k : ℕ) → drop at s ≡ (0 ∷ id ∷ 4 ∷ bigEndianBytes 4 (bitsOf 32 z)) ++ rest → length s ≤ at + k → ((j : ℕ) → Follow j (at + 7))
+      → Lists (entryField id z ∷ fs) (wireList k s at)
+  one-more z zero e h g = absurd (omega (arith, entry-room s at id z rest e))
+  one-more z (suc k) e h g = wire-entry s at id z rest e k fs h (g k (entry-rest s at id z rest e) (omega arith))
+
+  after-entry : (v : Value) (k : ℕ) → drop at s ≡ entryBytes id v ++ rest → length s ≤ at + k → Follow k at → ((j : ℕ) → Follow j (at + 7)) → Lists (entryFields id v ++ fs) (wireList k s at)
+  unfolding entryBytes
+  after-entry Absent k e h f g = f e h
+  after-entry (Number z) k e h f g = go (eqb id 124) e
+    where
+      go : (t : Bool) → drop at s ≡ cond t [] (0 ∷ id ∷ 4 ∷ bigEndianBytes 4 (bitsOf 32 z)) ++ rest → Lists (cond t [] (entryField id z ∷ []) ++ fs) (wireList k s at)
+      go true e = f e h
+      go false e = one-more z k e h g
+
+-- the bytes of parameters, from a position on, are read as their fields
+wire-entries : (m : ParameterMap) (s : List ℕ) (n id k at : ℕ) → drop at s ≡ entriesFrom n id m → length s ≤ at + k → Lists (fieldsFor n id m) (wireList k s at)
+unfolding entriesFrom fieldsFor
+wire-entries m s zero id k at e h =
+    let z : length (drop at s) ≡ 0 = rw e in
+    wire-past s k at (omega (arith, length-drop at s, z))
+wire-entries m s (suc n) id k at e h =
+    after-entry s at id (entriesFrom n ((id + 1) % 256) m) (fieldsFor n ((id + 1) % 256) m) (entryOf m id) k e h
+    (wire-entries m s n ((id + 1) % 256) k at) (λ (j : ℕ). wire-entries m s n ((id + 1) % 256) j (at + 7))
+
+parameters-listed : (m : ParameterMap) → Lists (fieldsFor 256 128 m) (wireFields (parameterBytes m))
+unfolding wireFields parameterBytes
+parameters-listed m = wire-entries m (entriesFrom 256 128 m) 256 128 (length (entriesFrom 256 128 m)) 0 refl (omega arith)
+
+-- the entries after one parameter was read
+abbrev stored : ℕ → Value → ParameterMap → ParameterMap
+stored id Absent m = m
+stored id (Number z) m = cond (eqb id 124) m (store m id (Number z))
+
+entry-taken : (id : ℕ) (z : ℤ) (m : ParameterMap) → SFits w32 z → eqb id 124 ≡ false → taken (entryField id z) m ≡ store m id (Number z)
+unfolding taken parameterKey numberIn
+entry-taken id z m f e = rw (e, bytes-length 4 (bitsOf 32 z), number-back z f)
+
+take-entry : (id : ℕ) (v : Value) (fs : List Field) (m : ParameterMap) → Held v → parametersIn (entryFields id v ++ fs) m ≡ parametersIn fs (stored id v m)
+unfolding parametersIn
+take-entry id Absent fs m h = refl
+take-entry id (Number z) fs m h = go (eqb id 124) refl
+  where
+    go : (t : Bool) → eqb id 124 ≡ t → parametersIn (cond t [] (entryField id z ∷ []) ++ fs) m ≡ parametersIn fs (cond t m (store m id (Number z)))
+    go true e = refl
+    go false e = ap (parametersIn fs) (entry-taken id z m h e)
+
+stored-length : (id : ℕ) (v : Value) (m : ParameterMap) → length (stored id v m .entries) ≡ length (m .entries)
+stored-length id Absent m = refl
+stored-length id (Number z) m = go (eqb id 124)
+  where
+    go : (t : Bool) → length (cond t m (store m id (Number z)) .entries) ≡ length (m .entries)
+    go true = refl
+    go false = length-set (m .entries) id (slot (Number z))
+
+stored-other : (id at : ℕ) (v : Value) (m : ParameterMap) → (at ≡ id → ⊥) → entryOf (stored id v m) at ≡ entryOf m at
+unfolding entryOf
+stored-other id at Absent m n = refl
+stored-other id at (Number z) m n = go (eqb id 124)
+  where
+    go : (t : Bool) → getD (cond t m (store m id (Number z)) .entries) at (slot Absent) .value ≡ getD (m .entries) at (slot Absent) .value
+    go true = refl
+    go false = rw (getD-set-other (m .entries) id at (slot (Number z)) (slot Absent) n)
+
+stored-same : (id : ℕ) (v : Value) (m : ParameterMap) → id < length (m .entries) → entryOf m id ≡ Absent → entryOf (stored id v m) id ≡ cond (eqb id 124) Absent v
+unfolding entryOf
+stored-same id Absent m h e = e ∙ go (eqb id 124)
+  where
+    go : (t : Bool) → Absent ≡ cond t Absent Absent
+    go true = refl
+    go false = refl
+stored-same id (Number z) m h e = go (eqb id 124)
+  where
+    go : (t : Bool) → getD (cond t m (store m id (Number z)) .entries) id (slot Absent) .value ≡ cond t Absent (Number z)
+    go true = e
+    go false = rw (getD-set-same (m .entries) id (slot (Number z)) (slot Absent) h)
+
+-- an id that is not among the n ids from one on keeps its entry; one that is among them gets the entry that was written
+module _ (m : ParameterMap) (held : (id : ℕ) → Held (entryOf m id)) (id : ℕ) (small : id < 256) where
+  passed : (n from : ℕ) (a : ParameterMap) → from < 256 → n ≤ (id + 256 - from) % 256 → entryOf (parametersIn (fieldsFor n from m) a) id ≡ entryOf a id
+  unfolding fieldsFor parametersIn
+  passed zero from a f h = refl
+  passed (suc n) from a f h =
+      let next = (from + 1) % 256 in
+      ap (λ (x : ParameterMap). entryOf x id) (take-entry from (entryOf m from) (fieldsFor n next m) a (held from)) ∙
+      passed n next (stored from (entryOf m from) a) (omega arith) (omega arith) ∙
+      stored-other from id (entryOf m from) a (λ e. omega arith)
+
+  reached : (n from : ℕ) (a : ParameterMap) → from < 256 → n ≤ 256 → (id + 256 - from) % 256 < n → length (a .entries) ≡ 256 → entryOf a id ≡ Absent
+      → entryOf (parametersIn (fieldsFor n from m) a) id ≡ cond (eqb id 124) Absent (entryOf m id)
+  unfolding fieldsFor parametersIn
+  reached zero from a f h i l e = absurd (omega arith)
+  reached (suc n) from a f h i l e =
+      let next = (from + 1) % 256 in
+      ap (λ (x : ParameterMap). entryOf x id) (take-entry from (entryOf m from) (fieldsFor n next m) a (held from)) ∙
+      by-test (eqb id from)
+      (λ t. let q : id ≡ from = eqb-true id from t in
+      passed n next (stored from (entryOf m from) a) (omega arith) (omega arith) ∙
+      subst (λ (k : ℕ). entryOf (stored k (entryOf m k) a) id ≡ cond (eqb id 124) Absent (entryOf m id)) q (stored-same id (entryOf m id) a (omega arith) e))
+      (λ t. let q = eqb-false id from t in
+      reached n next (stored from (entryOf m from) a) (omega arith) (omega arith) (omega arith) (stored-length from (entryOf m from) a ∙ l) (stored-other from id (entryOf m from) a q ∙ e))
+
+no-entry : (id : ℕ) → id < 256 → entryOf noParameters id ≡ Absent
+unfolding entryOf noParameters
+no-entry id h = rw (getD-replicate 256 id (slot Absent) (slot Absent) h)
+
+no-length : length (noParameters .entries) ≡ 256
+unfolding noParameters
+no-length = length-replicate 256 (slot Absent)
+
+pub parameters-back : (m : ParameterMap) → Sound m → ParametersBack m
+parameters-back m held = record {
+  whole = fine (wireFields (parameterBytes m)) (fieldsFor 256 128 m) (parameters-listed m) (omega (arith, all-once m 256 128)) (all-short m 256 128);
+  same = λ id h.
+      ap (λ (fs : List Field). entryOf (parametersIn fs noParameters) id) (parameters-listed m .0) ∙
+      reached m held id (omega arith) 256 128 noParameters (omega arith) (omega arith) (omega arith) no-length (no-entry id (omega arith));
+}

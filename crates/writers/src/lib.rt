@@ -1,0 +1,3 @@
+// Bodies, parameters and settings updates written.
+pub mod encode;
+pub mod pack;
