@@ -9,4 +9,4 @@ pub mod tables;
 pub mod update;
 pub mod votes;
 pub mod windows;
-pub mod writers;
+pub mod writing;

@@ -3,8 +3,8 @@ use Rattle.writers.specs.Pack.{packParameters}
 use mathlib.Core.Path.{_≡_, refl, sym, ap, _∙_}
 use Rattle.exports.proofs.Laws.{sized-is}
 use borrow.Author.Needs.{needs}
-use Rattle.exports.proofs.writers.ergo_pack_parameters_to_kv.Statement.{statement}
-use Rattle.exports.proofs.writers.ergo_pack_parameters_to_kv.Tie as tie
+use Rattle.exports.proofs.writing.ergo_pack_parameters_to_kv.Statement.{statement}
+use Rattle.exports.proofs.writing.ergo_pack_parameters_to_kv.Tie as tie
 
 map-of-requires : tie.Need-map-of-requires
 map-of-requires c κs = search needs

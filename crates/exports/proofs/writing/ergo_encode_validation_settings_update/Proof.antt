@@ -1,10 +1,10 @@
 use mathlib.Core.Path.{_≡_, refl, sym, ap, _∙_}
 use Rattle.exports.proofs.Laws.{sized-is}
 use borrow.Author.Needs.{needs}
-use Rattle.exports.proofs.writers.ergo_encode_validation_settings_update.Statement.{
+use Rattle.exports.proofs.writing.ergo_encode_validation_settings_update.Statement.{
   statement,
 }
-use Rattle.exports.proofs.writers.ergo_encode_validation_settings_update.Tie as tie
+use Rattle.exports.proofs.writing.ergo_encode_validation_settings_update.Tie as tie
 
 encode-validation-settings-update-requires : tie.Need-encode-validation-settings-update-requires
 encode-validation-settings-update-requires c κs = search needs

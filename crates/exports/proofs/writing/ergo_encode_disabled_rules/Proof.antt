@@ -1,8 +1,8 @@
 use mathlib.Core.Path.{_≡_, refl, sym, ap, _∙_}
 use Rattle.exports.proofs.Laws.{sized-is}
 use borrow.Author.Needs.{needs}
-use Rattle.exports.proofs.writers.ergo_encode_disabled_rules.Statement.{statement}
-use Rattle.exports.proofs.writers.ergo_encode_disabled_rules.Tie as tie
+use Rattle.exports.proofs.writing.ergo_encode_disabled_rules.Statement.{statement}
+use Rattle.exports.proofs.writing.ergo_encode_disabled_rules.Tie as tie
 
 encode-disabled-rules-requires : tie.Need-encode-disabled-rules-requires
 encode-disabled-rules-requires c κs = search needs

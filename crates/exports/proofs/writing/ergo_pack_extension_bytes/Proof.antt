@@ -4,8 +4,8 @@ use Rattle.writers.specs.Pack.{packExtension}
 use mathlib.Core.Path.{_≡_, refl, sym, ap, _∙_}
 use Rattle.exports.proofs.Laws.{sized-is}
 use borrow.Author.Needs.{needs}
-use Rattle.exports.proofs.writers.ergo_pack_extension_bytes.Statement.{statement}
-use Rattle.exports.proofs.writers.ergo_pack_extension_bytes.Tie as tie
+use Rattle.exports.proofs.writing.ergo_pack_extension_bytes.Statement.{statement}
+use Rattle.exports.proofs.writing.ergo_pack_extension_bytes.Tie as tie
 
 header-id-of-requires : tie.Need-header-id-of-requires
 header-id-of-requires c κs = search needs
