@@ -9,7 +9,7 @@ use exports::replay;
 use exports::tables;
 use exports::update;
 use exports::votes;
-use exports::writers;
+use exports::writing;
 use extension::boundary as on_values;
 use extension::boundary::Computed;
 use wire::boundary as wire_boundary;
@@ -71,7 +71,7 @@ fn of_bytes(name: &[u8], a: &[u8], n: usize, out: &mut [u8]) -> u16 {
         return sized(body::ergo_extract_disabling_rules_from_kv(a, out), n);
     }
     if check::same(name, b"pack_parameters_to_kv") {
-        return sized(writers::ergo_pack_parameters_to_kv(a, out), n);
+        return sized(writing::ergo_pack_parameters_to_kv(a, out), n);
     }
     if check::same(name, b"encode_disabled_rules") {
         return sized(encode_disabled_rules(a, out), n);
@@ -112,7 +112,7 @@ fn encode_rules(rules: &[u16], n: usize, out: &mut [u8]) -> usize {
     if rules.len() < n {
         return 0;
     }
-    writers::ergo_encode_disabled_rules(&rules[0..n], out)
+    writing::ergo_encode_disabled_rules(&rules[0..n], out)
 }
 
 pub(crate) fn with_two(name: &[u8], a: &[u8], b: &[u8], n: usize, out: &mut [u8]) -> u16 {
@@ -129,7 +129,7 @@ pub(crate) fn with_two(name: &[u8], a: &[u8], b: &[u8], n: usize, out: &mut [u8]
         return flag(tables::ergo_change_approved(a, lists::u32_of(b)), out);
     }
     if check::same(name, b"pack_extension_bytes") {
-        return sized(writers::ergo_pack_extension_bytes(a, b, out), n);
+        return sized(writing::ergo_pack_extension_bytes(a, b, out), n);
     }
     of_two(name, a, b, out)
 }
@@ -265,7 +265,7 @@ fn encode_update(
     if sizes.len() < m {
         return 0;
     }
-    writers::ergo_encode_validation_settings_update(
+    writing::ergo_encode_validation_settings_update(
         &rules[0..n],
         &ids[0..k],
         codes,
