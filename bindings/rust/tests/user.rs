@@ -1,0 +1,139 @@
+//! What rows can't say: values there and back, long lists, orders of entries, bytes that are missing, and a stream replayed.
+
+use std::fs;
+
+use ergo_voting::ffi::{ergo_check_block_version, ergo_check_header_votes, ergo_replay, ergo_soft_fork_approved};
+use ergo_voting::*;
+
+const QUIET: &[u8] = include_bytes!("../../../crates/replay/stdin");
+const ID: [u8; 32] = [0xa5; 32];
+
+fn mainnet() -> Table {
+    Table::default_parameters(Network::Mainnet)
+}
+
+fn opened() -> State {
+    State::open(1_024, &mainnet()).expect("an opening")
+}
+
+fn with(table: Table, entries: &[(u8, i32)]) -> Table {
+    entries.iter().fold(table, |table, &(id, value)| table.with(id, Some(value)).expect("an entry of a table"))
+}
+
+fn field(size: usize) -> Field {
+    Field { key: [2, 3], value: vec![7; size] }
+}
+
+#[test]
+fn every_legal_header() {
+    let all: Vec<[u8; 3]> = legal_votes().collect();
+    assert_eq!((all.len(), all[0], all[all.len() - 1]), (381_787, [0; 3], [255, 254, 120]));
+    assert!(all.windows(2).all(|pair| pair[0] < pair[1]) && all.iter().all(|votes| check_header_votes(*votes).is_ok()));
+    assert_eq!(next_legal_votes([1, 2, 200]), Some([1, 3, 0]), "after one that is illegal");
+}
+
+#[test]
+fn a_byte_past_the_end_counts_as_0() {
+    assert_eq!(
+        [&[1, 1][..], &[], &[1, 2, 0, 1]].map(ergo_check_header_votes),
+        [10, 0, 0],
+        "one after the votes is not looked at"
+    );
+    assert_eq!([0, 1].map(|votes| ergo_soft_fork_approved(&[], votes)), [0, 1]);
+    assert_eq!([0, 59, 60].map(|size| ergo_check_block_version(&mainnet().to_bytes()[..size], 1)), [20, 16, 0]);
+    let mut state = opened().to_bytes();
+    assert_eq!([94, 95].map(|size| ergo_replay(&mut state[..size], QUIET)), [21, 0]);
+}
+
+#[test]
+fn tables_and_states() {
+    let table = with(Table::default(), &[(9, -1), (123, i32::MIN)]);
+    assert_eq!([1, 9, 10, 123].map(|id| table.get(id)), [None, Some(-1), None, Some(i32::MIN)]);
+    assert_eq!([0, 10, 120, 124, 255].map(|id| table.with(id, Some(1))), [None; 5]);
+    assert_eq!((Table::from_bytes(&table.to_bytes()), table.with(9, None).expect("a table").get(9)), (table, None));
+    let mut state = opened();
+    assert_eq!((state.settings(), state.table(), state.next_height()), (Settings::of(Network::Mainnet), mainnet(), 1_024));
+    let votes = QUIET.len() - MAINNET_VOTES_SIZE;
+    assert_eq!(state.replay(&[&QUIET[..votes], &[0, 1, 0, 1, 0, 0], &QUIET[votes + 6..]].concat()), Ok(()));
+    assert_eq!((state.next_height(), state.tally().entries()), (2_048, vec![Entry { id: 1, count: 2 }]));
+    assert_eq!((State::from_bytes(&state.to_bytes()), Tally::from_bytes(&state.tally().to_bytes())), (state, state.tally()));
+}
+
+#[test]
+fn bodies_and_updates_there_and_back() {
+    let fields = [vec![field(4); 9_300], vec![field(0), field(64)]].concat();
+    let body = pack_extension_bytes(&ID, &fields).expect("a body");
+    let read = parse_extension_bytes(&body).expect("a body");
+    assert_eq!((read.header_id(), read.fields()), (ID, fields));
+    let status = |rule, raw: &[u8]| Status { rule, code: 9, raw: raw.to_vec() };
+    let (rules, statuses) = (vec![215, 409], vec![status(1_000, &[7, 8]), status(32_767, &[])]);
+    let bytes = encode_validation_settings_update(&rules, &statuses).expect("an update");
+    let read = parse_validation_settings_update(&bytes).expect("an update");
+    assert_eq!((read.rules(), read.statuses()), (rules, statuses));
+    let all: Parameters = (i8::MIN..=i8::MAX).map(|id| (id, i32::from(id))).collect();
+    let body = pack_extension_bytes(&ID, &pack_parameters_to_kv(&all)).expect("a body");
+    assert_eq!(parse_parameters_from_kv(&body), Ok(all.into_iter().filter(|(id, _)| *id != 124).collect()));
+}
+
+#[test]
+fn long_lists() {
+    let votes = |count| [120, 0, 0].repeat(count);
+    assert_eq!(check_headers(&[votes(70_000), vec![1, 2, 3]].concat()), Err(Refusal::TooManyVotes));
+    let tally = |count| tally_votes_seeded(0, &votes(count), count as u32, count as u32).map(|tally| tally.entries());
+    assert_eq!([65_536, 65_537].map(tally), [Ok(vec![Entry { id: 120, count: 65_536 }]), Err(Refusal::InputLong)]);
+    let status = Status { rule: 1_000, code: 9, raw: vec![] };
+    for (count, size) in [(65_536, Ok(3 * 65_536)), (65_537, Err(Refusal::InputLong))] {
+        let is = |written: Result<Vec<u8>, Refusal>, more| assert_eq!(written.map(|bytes| bytes.len() - more), size);
+        is(pack_extension_bytes(&ID, &vec![field(0); count]), 32 + 3);
+        is(encode_validation_settings_update(&[], &vec![status.clone(); count]), 1 + 3);
+        is(encode_disabled_rules(&vec![u16::MAX; count]), 3 + 1);
+    }
+    for value in [65, 255, 256, 65_536] {
+        assert_eq!(pack_extension_bytes(&ID, &[field(value)]), Err(Refusal::WrittenValueLong));
+    }
+}
+
+#[test]
+fn entries_in_any_order() {
+    let settings = Settings::of(Network::Mainnet);
+    let old = with(mainnet(), &[(121, 28_979), (122, 1_024)]);
+    let new = with(old, &[(1, 1_275_000), (3, 519_046), (8, 101), (123, 2)]);
+    let mut tally = [1, 120, -3, 8].map(|id| Entry { id, count: 513 }).to_vec();
+    tally.extend(vec![Entry { id: 2, count: 512 }; 200_000]);
+    for turn in 0..8 {
+        let computed = compute_boundary_parameters(&tally, &[1, 0xd7, 1, 0], &settings, 66_560, &old, false).expect("a table");
+        assert_eq!((computed.table, computed.activated.rules()), (new, vec![215]));
+        tally.swap(turn % 4, (turn + 1) % 4);
+    }
+}
+
+#[test]
+fn refusals() {
+    assert_eq!((Refusal::WindowLengthOutside.number(), Refusal::EntryDiffers { id: 3 }.number()), (33, 15));
+    assert_eq!(Refusal::EntryDiffers { id: 3 }.to_string(), "a computed entry is missing or different in the extension: id 3");
+}
+
+/// What program `replay` prints for a stream.
+fn printed(mut stream: &[u8]) -> String {
+    let (mut state, mut text, mut accepted) = (opened(), head_line(), 0);
+    while let RecordAt::Whole(record) = read_record(stream, MAINNET_VOTES_SIZE) {
+        if let Err(refusal) = state.replay(record.bytes) {
+            return text + &end_line(accepted, Some(refusal));
+        }
+        text += &epoch_line(record.height, &state.table());
+        accepted += 1;
+        stream = &stream[record.bytes.len()..];
+    }
+    text + &end_line(accepted, (!stream.is_empty()).then_some(Refusal::RecordMalformed))
+}
+
+#[test]
+fn streams() {
+    for name in
+        ["empty", "quiet", "approved", "r10_fork_vote_twice", "r15_several_differ", "r25_cut_in_votes", "r26_height_again"]
+    {
+        let read = |end| fs::read(format!("{}/../../crates/replay_streams/data/{name}.{end}", env!("CARGO_MANIFEST_DIR")));
+        let lines = read("lines").expect("lines");
+        assert_eq!(printed(&read("records").expect("records")).into_bytes(), lines, "{name}");
+    }
+}
