@@ -1,11 +1,10 @@
 //! What rows can't say: values there and back, long lists, orders of entries, bytes that are missing, and a stream replayed.
 
-use std::fs;
-
 use ergo_voting::ffi::{ergo_check_block_version, ergo_check_header_votes, ergo_replay, ergo_soft_fork_approved};
 use ergo_voting::*;
 
 const QUIET: &[u8] = include_bytes!("../../../crates/replay/stdin");
+const STREAMS: &str = concat!(env!("CARGO_MANIFEST_DIR"), "/../../crates/replay_streams/data");
 const ID: [u8; 32] = [0xa5; 32];
 
 fn mainnet() -> Table {
@@ -20,10 +19,6 @@ fn with(table: Table, entries: &[(u8, i32)]) -> Table {
     entries.iter().fold(table, |table, &(id, value)| table.with(id, Some(value)).expect("an entry of a table"))
 }
 
-fn field(size: usize) -> Field {
-    Field { key: [2, 3], value: vec![7; size] }
-}
-
 #[test]
 fn every_legal_header() {
     let all: Vec<[u8; 3]> = legal_votes().collect();
@@ -34,11 +29,7 @@ fn every_legal_header() {
 
 #[test]
 fn a_byte_past_the_end_counts_as_0() {
-    assert_eq!(
-        [&[1, 1][..], &[], &[1, 2, 0, 1]].map(ergo_check_header_votes),
-        [10, 0, 0],
-        "one after the votes is not looked at"
-    );
+    assert_eq!([&[1, 1][..], &[], &[1, 2, 0, 1]].map(ergo_check_header_votes), [10, 0, 0], "the fourth is not looked at");
     assert_eq!([0, 1].map(|votes| ergo_soft_fork_approved(&[], votes)), [0, 1]);
     assert_eq!([0, 59, 60].map(|size| ergo_check_block_version(&mainnet().to_bytes()[..size], 1)), [20, 16, 0]);
     let mut state = opened().to_bytes();
@@ -61,6 +52,7 @@ fn tables_and_states() {
 
 #[test]
 fn bodies_and_updates_there_and_back() {
+    let field = |size| Field { key: [2, 3], value: vec![7; size] };
     let fields = [vec![field(4); 9_300], vec![field(0), field(64)]].concat();
     let body = pack_extension_bytes(&ID, &fields).expect("a body");
     let read = parse_extension_bytes(&body).expect("a body");
@@ -81,6 +73,7 @@ fn long_lists() {
     assert_eq!(check_headers(&[votes(70_000), vec![1, 2, 3]].concat()), Err(Refusal::TooManyVotes));
     let tally = |count| tally_votes_seeded(0, &votes(count), count as u32, count as u32).map(|tally| tally.entries());
     assert_eq!([65_536, 65_537].map(tally), [Ok(vec![Entry { id: 120, count: 65_536 }]), Err(Refusal::InputLong)]);
+    let field = |size| Field { key: [2, 3], value: vec![7; size] };
     let status = Status { rule: 1_000, code: 9, raw: vec![] };
     for (count, size) in [(65_536, Ok(3 * 65_536)), (65_537, Err(Refusal::InputLong))] {
         let is = |written: Result<Vec<u8>, Refusal>, more| assert_eq!(written.map(|bytes| bytes.len() - more), size);
@@ -88,9 +81,8 @@ fn long_lists() {
         is(encode_validation_settings_update(&[], &vec![status.clone(); count]), 1 + 3);
         is(encode_disabled_rules(&vec![u16::MAX; count]), 3 + 1);
     }
-    for value in [65, 255, 256, 65_536] {
-        assert_eq!(pack_extension_bytes(&ID, &[field(value)]), Err(Refusal::WrittenValueLong));
-    }
+    let refused = |size| pack_extension_bytes(&ID, &[field(size)]) == Err(Refusal::WrittenValueLong);
+    assert_eq!([64, 65, 255, 256, 65_536].map(refused), [false, true, true, true, true]);
 }
 
 #[test]
@@ -105,12 +97,6 @@ fn entries_in_any_order() {
         assert_eq!((computed.table, computed.activated.rules()), (new, vec![215]));
         tally.swap(turn % 4, (turn + 1) % 4);
     }
-}
-
-#[test]
-fn refusals() {
-    assert_eq!((Refusal::WindowLengthOutside.number(), Refusal::EntryDiffers { id: 3 }.number()), (33, 15));
-    assert_eq!(Refusal::EntryDiffers { id: 3 }.to_string(), "a computed entry is missing or different in the extension: id 3");
 }
 
 /// What program `replay` prints for a stream.
@@ -129,11 +115,8 @@ fn printed(mut stream: &[u8]) -> String {
 
 #[test]
 fn streams() {
-    for name in
-        ["empty", "quiet", "approved", "r10_fork_vote_twice", "r15_several_differ", "r25_cut_in_votes", "r26_height_again"]
-    {
-        let read = |end| fs::read(format!("{}/../../crates/replay_streams/data/{name}.{end}", env!("CARGO_MANIFEST_DIR")));
-        let lines = read("lines").expect("lines");
-        assert_eq!(printed(&read("records").expect("records")).into_bytes(), lines, "{name}");
+    for name in ["empty", "approved", "r10_fork_vote_twice", "r15_several_differ", "r25_cut_in_votes", "r26_height_again"] {
+        let read = |end| std::fs::read(format!("{STREAMS}/{name}.{end}")).expect("a file of a stream");
+        assert_eq!(printed(&read("records")).into_bytes(), read("lines"), "{name}");
     }
 }

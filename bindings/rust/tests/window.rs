@@ -17,8 +17,7 @@ fn support_is_what_a_recount_gives() {
         let mut window = Window::new(length as u32).expect("a window");
         let (mut entered, mut refusals) = (Vec::new(), Vec::new());
         for draw in 0..512 {
-            let votes = [1, 8, 64].map(|each| VOTES[draw / each % 8]);
-            let before = window.clone();
+            let (votes, before) = ([1, 8, 64].map(|each| VOTES[draw / each % 8]), window.clone());
             let put = window.put(votes);
             assert_eq!(put, check_header_votes(votes));
             match put {
