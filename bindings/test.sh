@@ -1,5 +1,6 @@
 #!/usr/bin/env bash
-# Builds the library and tests it from C, Rust and Python. Fails where one of them does.
+# Builds the library and tests it from C, Rust and Python: by hand from all three, and by the recorded answers of
+# crates/vectors/data from Rust and Python. Fails where one of them does.
 set -euo pipefail
 cd "$(dirname "$0")/.."
 
@@ -20,7 +21,7 @@ echo '#include "ergo_voting.h"' | c++ -fsyntax-only -Wall -Wextra -pedantic -Wer
 
 cargo fmt --check --manifest-path $manifest
 cargo test --quiet --offline --manifest-path $manifest
-cargo build --quiet --offline --manifest-path $manifest --examples
+cargo build --quiet --offline --manifest-path $manifest --example parameter
 
 python3 -B -m unittest discover --start-directory bindings/python
 
@@ -36,7 +37,7 @@ told() {
 agree() {
     local stream=$streams/$1.records in_c in_rust in_python
     in_c=$(told target/c_example "$stream")
-    in_rust=$(told bindings/rust/target/debug/examples/parameter "$stream")
+    in_rust=$(told cargo run --quiet --offline --manifest-path $manifest --example parameter "$stream")
     in_python=$(told python3 -B bindings/python/example.py "$stream")
     if [ "$in_c" != "$in_rust" ] || [ "$in_c" != "$in_python" ] || [[ "$in_c" != *"$2" ]]; then
         printf 'the examples on %s\nC\n%s\nRust\n%s\nPython\n%s\n' "$1" "$in_c" "$in_rust" "$in_python"

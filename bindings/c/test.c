@@ -1,5 +1,5 @@
-/* The helpers of the header, and the library from C: NULL for a length of 0, outputs that are too short, every legal
-   header, a window, a boundary. */
+/* The helpers of the header, NULL for a length of 0, outputs that are too short, a window, a boundary. What the
+   functions answer is tested from Rust and Python, by recorded answers. */
 #undef NDEBUG
 #include <assert.h>
 #include <stdio.h>
@@ -23,26 +23,20 @@ static bool untouched(const void *cells, size_t size) {
     return true;
 }
 
-static void numbers(void) {
-    uint8_t bytes[4];
+static void numbers_and_tables(void) {
+    uint8_t bytes[4], other[ERGO_TABLE_SIZE];
+    int32_t value = 5;
     ergo_put_number(bytes, 0x80000001u);
-    assert(ergo_number(bytes) == 0x80000001u);
-    assert(ergo_signed_number(bytes) == INT32_MIN + 1);
+    assert(ergo_number(bytes) == 0x80000001u && ergo_signed_number(bytes) == INT32_MIN + 1);
     ergo_put_number(bytes, 0x7fffffffu);
     assert(ergo_signed_number(bytes) == INT32_MAX);
-}
-
-static void tables(void) {
-    int32_t value = 5;
-    uint8_t other[ERGO_TABLE_SIZE];
     memcpy(other, table, sizeof other);
-    assert(ergo_table_get(table, 1, &value) && value == 1250000);
-    assert(ergo_table_get(table, 123, &value) && value == 1);
+    assert(ergo_table_get(table, 1, &value) && value == 1250000 && ergo_table_get(table, 123, &value) && value == 1);
     assert(!ergo_table_get(table, 9, &value) && !ergo_table_get(table, 121, &value) && value == 1);
     assert(!ergo_table_get(table, 0, &value) && !ergo_table_get(table, 10, &value));
     assert(ergo_table_set(other, 122, -1) && ergo_table_get(other, 122, &value) && value == -1);
-    assert(ergo_table_remove(other, 122) && memcmp(other, table, sizeof other) == 0);
-    assert(!ergo_table_set(other, 120, 1) && !ergo_table_remove(other, 120) && memcmp(other, table, sizeof other) == 0);
+    assert(ergo_table_remove(other, 122) && !ergo_table_set(other, 120, 1) && !ergo_table_remove(other, 120));
+    assert(memcmp(other, table, sizeof other) == 0);
 }
 
 static void tallies(void) {
@@ -52,24 +46,6 @@ static void tallies(void) {
     assert(ergo_tally_votes_seeded(1024, votes, sizeof votes, 2048, 1024, tally, sizeof tally) == 0);
     assert(ergo_tally_entries(tally, entries) == 2);
     assert(entries[0].id == -1 && entries[0].count == 3 && entries[1].id == 120 && entries[1].count == 1);
-}
-
-/* Every legal header, from 0, 0, 0 on. */
-static void legal_headers(void) {
-    const uint8_t last[] = {255, 254, 120}; /* 16,776,824 */
-    uint8_t votes[] = {0, 0, 0}, cells[4];
-    size_t count = 1;
-    memset(cells, UNTOUCHED, sizeof cells);
-    while (ergo_next_legal_votes(votes, sizeof votes, cells, sizeof cells) == 3) {
-        assert(memcmp(cells, votes, sizeof votes) > 0 && untouched(cells + 3, 1));
-        memcpy(votes, cells, sizeof votes);
-        count++;
-    }
-    assert(count == 381787 && memcmp(votes, last, sizeof last) == 0);
-    memset(cells, UNTOUCHED, sizeof cells);
-    assert(ergo_next_legal_votes(last, sizeof last, cells, sizeof cells) == 0);
-    assert(ergo_next_legal_votes(last, sizeof last, NULL, 0) == 0);
-    assert(untouched(cells, sizeof cells));
 }
 
 /* Puts three votes into a window, which stays as it was where they are refused: the answer. */
@@ -95,16 +71,18 @@ static bool supported(const uint16_t *cells, uint16_t fork, uint16_t more, uint1
 /* A window of two headers, and a cell behind it. */
 static void windows(void) {
     uint16_t cells[CELLS + 1], before[CELLS + 1];
-    uint64_t window;
+    uint64_t window = 0;
     memset(cells, UNTOUCHED, sizeof cells);
+    assert(ergo_window_new(ERGO_WINDOW_LENGTH_MOST + 1, cells, CELLS) == -ERGO_WINDOW_LENGTH_OUTSIDE);
+    assert(ergo_window_new(2, cells, CELLS - 1) == -ERGO_OUTPUT_SHORT);
+    assert(put(&window, cells, CELLS, 120, 0, 0) == -ERGO_OUTPUT_SHORT); /* 0 is no window */
+    assert(untouched(cells, sizeof cells));
     window = (uint64_t)ergo_window_new(2, cells, CELLS + 1);
     assert(ergo_window_length(window) == 2 && ergo_window_held(window) == 0 && supported(cells, 0, 0, 0));
     assert(put(&window, cells, CELLS, 120, 0, 1) > 0 && ergo_window_held(window) == 1 && supported(cells, 1, 1, 0));
     assert(put(&window, cells, CELLS, 255, 120, 0) > 0 && ergo_window_held(window) == 2 && supported(cells, 2, 1, 1));
     memcpy(before, cells, sizeof cells);
     assert(put(&window, cells, CELLS, 1, 2, 3) == -ERGO_TOO_MANY_VOTES);
-    assert(put(&window, cells, CELLS, 1, 1, 0) == -ERGO_REPEATED_VOTE);
-    assert(put(&window, cells, CELLS, 1, 255, 0) == -ERGO_CONTRADICTORY_VOTE);
     assert(put(&window, cells, CELLS - 1, 0, 0, 0) == -ERGO_OUTPUT_SHORT);
     assert(ergo_window_held(window) == 2 && memcmp(before, cells, sizeof cells) == 0);
     assert(put(&window, cells, CELLS, 0, 0, 0) > 0 && ergo_window_held(window) == 2 && supported(cells, 1, 0, 1));
@@ -112,23 +90,9 @@ static void windows(void) {
     assert(ergo_window_length(window) == 2 && untouched(cells + CELLS, sizeof cells[0]));
 }
 
-static void windows_that_are_refused(void) {
-    uint16_t cells[CELLS];
-    uint64_t window = 0;
-    memset(cells, UNTOUCHED, sizeof cells);
-    assert(ergo_window_new(0, NULL, 0) == -ERGO_WINDOW_LENGTH_OUTSIDE);
-    assert(ergo_window_new(ERGO_WINDOW_LENGTH_MOST, NULL, 0) == -ERGO_OUTPUT_SHORT);
-    assert(ergo_window_new(ERGO_WINDOW_LENGTH_MOST + 1, NULL, 0) == -ERGO_WINDOW_LENGTH_OUTSIDE);
-    assert(ergo_window_new(0, cells, CELLS) == -ERGO_WINDOW_LENGTH_OUTSIDE);
-    assert(ergo_window_new(2, cells, CELLS - 1) == -ERGO_OUTPUT_SHORT);
-    assert(put(&window, cells, CELLS, 120, 0, 0) == -ERGO_OUTPUT_SHORT); /* 0 is no window */
-    assert(put(&window, cells, CELLS, 1, 1, 0) == -ERGO_REPEATED_VOTE);
-    assert(untouched(cells, sizeof cells));
-}
-
 static void boundary(void) {
-    const ergo_entry tally[] = {{1, 513}, {-2, 513}, {3, 512}}, reversed[] = {{3, 512}, {-2, 513}, {1, 513}};
-    uint8_t question[ERGO_QUESTION_SIZE], out[ERGO_COMPUTED_SIZE], other[ERGO_COMPUTED_SIZE];
+    const ergo_entry tally[] = {{1, 513}, {-2, 513}, {3, 512}};
+    uint8_t question[ERGO_QUESTION_SIZE], out[ERGO_COMPUTED_SIZE];
     int32_t value;
     ergo_question(question, settings, 2048, table, true);
     assert(ergo_compute_boundary_parameters(tally, 3, NULL, 0, question, sizeof question, out, sizeof out) == 0);
@@ -136,24 +100,14 @@ static void boundary(void) {
     assert(ergo_table_get(out + ERGO_COMPUTED_TABLE_AT, 2, &value) && value == 350);
     assert(ergo_table_get(out + ERGO_COMPUTED_TABLE_AT, 122, &value) && value == 2048);
     assert(ergo_number(out + ERGO_COMPUTED_UPDATE_AT + ERGO_UPDATE_RULES_AT + ERGO_SECTION_COUNT_AT) == 0);
-    assert(ergo_compute_boundary_parameters(reversed, 3, NULL, 0, question, sizeof question, other, sizeof other) == 0);
-    assert(memcmp(out, other, sizeof out) == 0);
 }
 
-static void states(void) {
-    uint8_t state[ERGO_STATE_SIZE], before[ERGO_STATE_SIZE];
-    assert(ergo_open(1024, table, sizeof table, state, sizeof state) == 0);
-    assert(ergo_state_next_height(state) == 1024);
-    assert(memcmp(ergo_state_table(state), table, sizeof table) == 0);
-    memcpy(before, state, sizeof state);
-    assert(ergo_replay(state, sizeof state, NULL, 0) == ERGO_RECORD_MALFORMED);
-    assert(memcmp(before, state, sizeof state) == 0);
-}
-
-static void answers(void) {
+static void states_and_answers(void) {
+    uint8_t state[ERGO_STATE_SIZE];
     uint16_t answer = ergo_check_parameters_v6(table, sizeof table, NULL, 0);
     assert(ergo_refusal_of(answer) == ERGO_ENTRY_DIFFERS && ergo_id_of(answer) == 1);
-    assert(ergo_check_parameters_v6(NULL, 0, NULL, 0) == 0);
+    assert(ergo_open(1024, table, sizeof table, state, sizeof state) == 0 && ergo_state_next_height(state) == 1024);
+    assert(memcmp(ergo_state_table(state), table, sizeof table) == 0);
 }
 
 /* Nothing to read, and nothing to write to. */
@@ -165,7 +119,7 @@ static void nothing_lent(void) {
     assert(ergo_tally_votes_seeded(0, NULL, 0, 0, 0, NULL, 0) == ERGO_OUTPUT_SHORT);
     assert(ergo_window_new(1, NULL, 0) == -ERGO_OUTPUT_SHORT);
     assert(ergo_window_put(0, NULL, 0, NULL, 0) == -ERGO_OUTPUT_SHORT);
-    assert(ergo_check_fork_vote(NULL, 0, 0, NULL, 0, NULL, 0) == 0);
+    assert(ergo_check_fork_vote(NULL, 0, 0, NULL, 0, NULL, 0) == 0 && ergo_check_parameters_v6(NULL, 0, NULL, 0) == 0);
     assert(ergo_compute_boundary_parameters(NULL, 0, NULL, 0, NULL, 0, NULL, 0) == ERGO_VOTING_LENGTH_ZERO);
     assert(ergo_check_block_version(NULL, 0, 1) == ERGO_BLOCK_VERSION_ABSENT);
     assert(ergo_check_body(NULL, 0) == ERGO_BODY_SHORT);
@@ -184,9 +138,8 @@ static void nothing_lent(void) {
     assert(ergo_open(1024, NULL, 0, NULL, 0) == ERGO_OUTPUT_SHORT);
     assert(ergo_replay(NULL, 0, NULL, 0) == ERGO_RECORD_MALFORMED);
     assert(ergo_read_record(NULL, 0, 0, NULL, 0) == 3);
-    assert(ergo_write_head(NULL, 0) == -ERGO_OUTPUT_SHORT);
+    assert(ergo_write_head(NULL, 0) == -ERGO_OUTPUT_SHORT && ergo_write_end(0, 0, NULL, 0) == -ERGO_OUTPUT_SHORT);
     assert(ergo_write_epoch(0, NULL, 0, NULL, 0) == -ERGO_OUTPUT_SHORT);
-    assert(ergo_write_end(0, 0, NULL, 0) == -ERGO_OUTPUT_SHORT);
 }
 
 static void outputs_that_are_too_short(void) {
@@ -205,15 +158,11 @@ int main(void) {
     assert(ergo_default_parameters(ERGO_MAINNET, table, sizeof table) == 0);
     assert(ergo_voting_config(ERGO_MAINNET, settings, sizeof settings) == 0);
     assert(ergo_number(settings + ERGO_SETTINGS_VERSION2_HEIGHT_AT) == 417792);
-    numbers();
-    tables();
+    numbers_and_tables();
     tallies();
-    legal_headers();
     windows();
-    windows_that_are_refused();
     boundary();
-    states();
-    answers();
+    states_and_answers();
     nothing_lent();
     outputs_that_are_too_short();
     puts("C: the tests passed");
