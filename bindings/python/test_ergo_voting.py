@@ -199,7 +199,9 @@ class Values(Case):
     def test_tables_and_states(self):
         table = Table().with_entry(9, -1).with_entry(123, -(2**31)).with_entry(1, 7).with_entry(1, None)
         self.assertEqual([table.get(id) for id in (1, 9, 10, 123)], [None, -1, None, -(2**31)])
-        self.assertEqual(Table.from_bytes(table.to_bytes()), table)
+        self.assertEqual([Table((*range(12),)).get(id) for id in (*range(1, 10), 121, 122, 123)], [*range(12)])
+        settings = Settings(voting_length=1, soft_fork_epochs=2, activation_epochs=3, version2_activation_height=4)
+        self.assertEqual(settings.to_bytes(), struct.pack(">4I", 1, 2, 3, 4))
         state = State.open(1_024, MAINNET)
         self.assertEqual((state.settings, state.table, state.next_height), (Settings.of(Network.MAINNET), MAINNET, 1_024))
         state.replay(QUIET[:-MAINNET_VOTES_SIZE] + bytes((0, 1, 0, 1, 0, 0)) + QUIET[6 - MAINNET_VOTES_SIZE :])
@@ -218,7 +220,6 @@ class Values(Case):
         self.assertRaises(OverflowError, ergo.encode_disabled_rules, [65_536])
 
     def test_refusals(self):
-        self.assertEqual(str(Refused(1)), "refused by 1: a body has fewer than 32 bytes")
         self.assertEqual(str(Refused(15, 3)), "refused by 15: a computed entry is missing or different in the extension: id 3")
 
     def test_there_and_back(self):
@@ -245,10 +246,10 @@ class Values(Case):
     def test_records_and_lines(self):
         record = ergo.read_record(QUIET + QUIET, MAINNET_VOTES_SIZE)
         self.assertEqual((record.height, record.data, record.votes), (1_024, QUIET, bytes(MAINNET_VOTES_SIZE)))
+        self.assertEqual(record.body, QUIET[10 : -MAINNET_VOTES_SIZE - 3])
         self.assertEqual(ergo.read_record(QUIET[:-1], MAINNET_VOTES_SIZE), Short(1))
         self.refused(Refusal.RECORD_MALFORMED, ergo.read_record, QUIET, MAINNET_VOTES_SIZE - 3)
-        longest = MAINNET.with_entry(121, -(2**31)).with_entry(122, -(2**31)).with_entry(123, -(2**31))
-        self.assertEqual(len(ergo.epoch_line(2**32 - 1, longest)), LINE_SIZE)
+        self.assertEqual(len(ergo.epoch_line(2**32 - 1, Table((None,) * 9 + (-(2**31),) * 3))), LINE_SIZE)
 
 
 class Support(Case):

@@ -11,10 +11,6 @@ fn mainnet() -> Table {
     Table::default_parameters(Network::Mainnet)
 }
 
-fn opened() -> State {
-    State::open(1_024, &mainnet()).expect("an opening")
-}
-
 fn with(table: Table, entries: &[(u8, i32)]) -> Table {
     entries.iter().fold(table, |table, &(id, value)| table.with(id, Some(value)).expect("an entry of a table"))
 }
@@ -23,8 +19,7 @@ fn with(table: Table, entries: &[(u8, i32)]) -> Table {
 fn every_legal_header() {
     let all: Vec<[u8; 3]> = legal_votes().collect();
     assert_eq!((all.len(), all[0], all[all.len() - 1]), (381_787, [0; 3], [255, 254, 120]));
-    assert!(all.windows(2).all(|pair| pair[0] < pair[1]) && all.iter().all(|votes| check_header_votes(*votes).is_ok()));
-    assert_eq!(next_legal_votes([1, 2, 200]), Some([1, 3, 0]), "after one that is illegal");
+    assert!(all.is_sorted_by(|before, after| before < after) && all.iter().all(|votes| check_header_votes(*votes).is_ok()));
 }
 
 #[test]
@@ -32,22 +27,30 @@ fn a_byte_past_the_end_counts_as_0() {
     assert_eq!([&[1, 1][..], &[], &[1, 2, 0, 1]].map(ergo_check_header_votes), [10, 0, 0], "the fourth is not looked at");
     assert_eq!([0, 1].map(|votes| ergo_soft_fork_approved(&[], votes)), [0, 1]);
     assert_eq!([0, 59, 60].map(|size| ergo_check_block_version(&mainnet().to_bytes()[..size], 1)), [20, 16, 0]);
-    let mut state = opened().to_bytes();
+    let mut state = State::open(1_024, &mainnet()).expect("an opening").to_bytes();
     assert_eq!([94, 95].map(|size| ergo_replay(&mut state[..size], QUIET)), [21, 0]);
 }
 
 #[test]
-fn tables_and_states() {
-    let table = with(Table::default(), &[(9, -1), (123, i32::MIN)]);
-    assert_eq!([1, 9, 10, 123].map(|id| table.get(id)), [None, Some(-1), None, Some(i32::MIN)]);
-    assert_eq!([0, 10, 120, 124, 255].map(|id| table.with(id, Some(1))), [None; 5]);
-    assert_eq!((Table::from_bytes(&table.to_bytes()), table.with(9, None).expect("a table").get(9)), (table, None));
-    let mut state = opened();
+fn tables_and_settings() {
+    let ids = [1, 2, 3, 4, 5, 6, 7, 8, 9, 121, 122, 123];
+    let table = with(Table::default(), &ids.map(|id| (id, -i32::from(id))));
+    assert_eq!(table.to_bytes()[..], ids.map(|id| [1, 255, 255, 255, id.wrapping_neg()]).concat());
+    assert_eq!((Table::from_bytes(&table.to_bytes()), ids.map(|id| table.get(id))), (table, ids.map(|id| Some(-i32::from(id)))));
+    assert_eq!([0, 10, 120, 124, 255].map(|id| (table.get(id), table.with(id, Some(1)))), [(None, None); 5]);
+    let settings = Settings { voting_length: 1, soft_fork_epochs: 2, activation_epochs: 3, version2_activation_height: 4 };
+    assert_eq!(settings.to_bytes(), [0, 0, 0, 1, 0, 0, 0, 2, 0, 0, 0, 3, 0, 0, 0, 4]);
+}
+
+#[test]
+fn records_and_states() {
+    let (votes, mut state) = (QUIET.len() - MAINNET_VOTES_SIZE, State::open(1_024, &mainnet()).expect("an opening"));
+    let RecordAt::Whole(record) = read_record(QUIET, MAINNET_VOTES_SIZE) else { panic!("a record") };
+    assert_eq!((record.height, record.body, record.votes), (1_024, &QUIET[10..votes - 3], &QUIET[votes..]));
+    assert_eq!(read_record(&[2], MAINNET_VOTES_SIZE), RecordAt::Malformed);
     assert_eq!((state.settings(), state.table(), state.next_height()), (Settings::of(Network::Mainnet), mainnet(), 1_024));
-    let votes = QUIET.len() - MAINNET_VOTES_SIZE;
     assert_eq!(state.replay(&[&QUIET[..votes], &[0, 1, 0, 1, 0, 0], &QUIET[votes + 6..]].concat()), Ok(()));
     assert_eq!((state.next_height(), state.tally().entries()), (2_048, vec![Entry { id: 1, count: 2 }]));
-    assert_eq!((State::from_bytes(&state.to_bytes()), Tally::from_bytes(&state.tally().to_bytes())), (state, state.tally()));
 }
 
 #[test]
@@ -87,21 +90,21 @@ fn long_lists() {
 
 #[test]
 fn entries_in_any_order() {
-    let settings = Settings::of(Network::Mainnet);
     let old = with(mainnet(), &[(121, 28_979), (122, 1_024)]);
     let new = with(old, &[(1, 1_275_000), (3, 519_046), (8, 101), (123, 2)]);
-    let mut tally = [1, 120, -3, 8].map(|id| Entry { id, count: 513 }).to_vec();
-    tally.extend(vec![Entry { id: 2, count: 512 }; 200_000]);
-    for turn in 0..8 {
+    for order in 0..24 {
+        let mut ids = vec![1, 120, -3, 8];
+        let mut tally = [order / 6, order / 2 % 3, order % 2, 0].map(|at| Entry { id: ids.remove(at), count: 513 }).to_vec();
+        tally.extend(vec![Entry { id: 2, count: 512 }; 70_000]);
+        let settings = Settings::of(Network::Mainnet);
         let computed = compute_boundary_parameters(&tally, &[1, 0xd7, 1, 0], &settings, 66_560, &old, false).expect("a table");
         assert_eq!((computed.table, computed.activated.rules()), (new, vec![215]));
-        tally.swap(turn % 4, (turn + 1) % 4);
     }
 }
 
 /// What program `replay` prints for a stream.
 fn printed(mut stream: &[u8]) -> String {
-    let (mut state, mut text, mut accepted) = (opened(), head_line(), 0);
+    let (mut state, mut text, mut accepted) = (State::open(1_024, &mainnet()).expect("an opening"), head_line(), 0);
     while let RecordAt::Whole(record) = read_record(stream, MAINNET_VOTES_SIZE) {
         if let Err(refusal) = state.replay(record.bytes) {
             return text + &end_line(accepted, Some(refusal));

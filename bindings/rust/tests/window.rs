@@ -2,9 +2,6 @@
 
 use ergo_voting::{check_header_votes, Refusal, Window, WINDOW_LENGTH_MOST};
 
-/// Votes that are legal often enough, and refused by each number as well.
-const VOTES: [u8; 8] = [0, 0, 1, 255, 2, 120, 120, 128];
-
 /// How many of the last headers have each byte among their votes; none has a 0.
 fn recount(last: &[[u8; 3]]) -> [u16; 256] {
     let having = |byte: u8| last.iter().filter(|votes| votes.contains(&byte)).count() as u16;
@@ -17,7 +14,7 @@ fn support_is_what_a_recount_gives() {
         let mut window = Window::new(length as u32).expect("a window");
         let (mut entered, mut refusals) = (Vec::new(), Vec::new());
         for draw in 0..512 {
-            let (votes, before) = ([1, 8, 64].map(|each| VOTES[draw / each % 8]), window.clone());
+            let (votes, before) = ([1, 8, 64].map(|each| [0, 0, 1, 255, 2, 120, 120, 128][draw / each % 8]), window.clone());
             let put = window.put(votes);
             assert_eq!(put, check_header_votes(votes));
             match put {
