@@ -9,9 +9,14 @@ const NETWORKS: [Network; 2] = [Network::Mainnet, Network::Testnet];
 /// A refusal's number or 0, and bytes.
 type Answer = (u8, Vec<u8>);
 
+/// Pieces with `+` between them: hexadecimal bytes, as often as the count after a `*` says. `-` is none.
 fn bytes_of(word: &str) -> Vec<u8> {
-    assert!(word == "-" || word.len().is_multiple_of(2), "{word} is no bytes");
-    (0..word.len() / 2).map(|at| u8::from_str_radix(&word[2 * at..2 * at + 2], 16).expect("hexadecimal digits")).collect()
+    let piece = |piece: &str| {
+        let (digits, count) = piece.split_once('*').unwrap_or((piece, "1"));
+        let byte = |at| u8::from_str_radix(&digits[at..at + 2], 16).expect("hexadecimal digits");
+        (0..digits.len()).step_by(2).map(byte).collect::<Vec<_>>().repeat(count.parse().expect("a count"))
+    };
+    word.replace('-', "").split('+').flat_map(piece).collect()
 }
 
 fn array<const N: usize>(bytes: &[u8]) -> [u8; N] {
@@ -84,7 +89,7 @@ fn map(parameters: Parameters) -> Vec<u8> {
     (0..=255).filter_map(entry).flatten().collect()
 }
 
-/// What the typed function answers; none where it takes a buffer, or the bytes are not of its types.
+/// What the typed function answers; none where the bytes are not of its types.
 fn typed(name: &str, arguments: &[&[u8]]) -> Option<Answer> {
     let answer = match (name, arguments) {
         ("check_header_votes", [votes]) => check_header_votes(array(votes)).map(|()| vec![]),
@@ -114,7 +119,7 @@ fn typed(name: &str, arguments: &[&[u8]]) -> Option<Answer> {
         ("parameter_step", [&[id]]) => Ok(value(parameter_step(id as i8))),
         ("check_body", [body]) => check_body(body).map(|()| vec![]),
         ("parse_extension_bytes", [body]) => {
-            parse_extension_bytes(body).map(|read| section(read.fields_section(), read.fields().len()))
+            parse_extension_bytes(body).map(|it| section(it.fields_section(), it.fields().len()))
         }
         ("field_at", [body, at]) => field_at(body, number(at) as usize)
             .map(|FieldPlace { key: [key0, key1], value }| numbers([key0.into(), key1.into(), value.start, value.end])),
@@ -125,6 +130,16 @@ fn typed(name: &str, arguments: &[&[u8]]) -> Option<Answer> {
         ("status_at", [bytes, at]) => status_at(bytes, number(at) as usize)
             .map(|StatusPlace { rule, code, raw }| numbers([(rule as u16).into(), code.into(), raw.start, raw.end])),
         ("rule_may_not_be_disabled", [id]) => Ok(vec![rule_may_not_be_disabled(number(id) as i32).into()]),
+        ("pack_extension_bytes", [id, fields]) => pack_extension_bytes(&array(id), &fields_of(fields)?),
+        ("pack_parameters_to_kv", [map]) => {
+            let field = |Field { key, value }| [&key[..], &[value.len() as u8], &value].concat();
+            Ok(pack_parameters_to_kv(&parameters_of(map)).into_iter().flat_map(field).collect())
+        }
+        ("encode_validation_settings_update", [rules, ids, codes, sizes, raw]) => {
+            let statuses = statuses_of(&list(ids, i16::from_be_bytes), codes, &list(sizes, u32::from_be_bytes), raw)?;
+            encode_validation_settings_update(&list(rules, u16::from_be_bytes), &statuses)
+        }
+        ("encode_disabled_rules", [rules]) => encode_disabled_rules(&list(rules, u16::from_be_bytes)),
         ("open", [height, table]) => State::open(number(height), &table_of(table)).map(|state| state.to_bytes().to_vec()),
         ("replay", [state, record]) => {
             let mut state = State::from_bytes(&array(state));

@@ -19,7 +19,8 @@ fn with(table: Table, entries: &[(u8, i32)]) -> Table {
 fn every_legal_header() {
     let all: Vec<[u8; 3]> = legal_votes().collect();
     assert_eq!((all.len(), all[0], all[all.len() - 1]), (381_787, [0; 3], [255, 254, 120]));
-    assert!(all.is_sorted_by(|before, after| before < after) && all.iter().all(|votes| check_header_votes(*votes).is_ok()));
+    assert_eq!(check_headers(&[all.concat(), vec![1, 2, 3]].concat()), Err(Refusal::TooManyVotes));
+    assert!(all.is_sorted_by(|before, after| before < after) && check_headers(&all.concat()).is_ok());
 }
 
 #[test]
@@ -36,7 +37,8 @@ fn tables_and_settings() {
     let ids = [1, 2, 3, 4, 5, 6, 7, 8, 9, 121, 122, 123];
     let table = with(Table::default(), &ids.map(|id| (id, -i32::from(id))));
     assert_eq!(table.to_bytes()[..], ids.map(|id| [1, 255, 255, 255, id.wrapping_neg()]).concat());
-    assert_eq!((Table::from_bytes(&table.to_bytes()), ids.map(|id| table.get(id))), (table, ids.map(|id| Some(-i32::from(id)))));
+    let bytes = table.to_bytes().map(|byte| if byte == 1 { 9 } else { byte });
+    assert_eq!((Table::from_bytes(&bytes), ids.map(|id| table.get(id))), (table, ids.map(|id| Some(-i32::from(id)))));
     assert_eq!([0, 10, 120, 124, 255].map(|id| (table.get(id), table.with(id, Some(1)))), [(None, None); 5]);
     let settings = Settings { voting_length: 1, soft_fork_epochs: 2, activation_epochs: 3, version2_activation_height: 4 };
     assert_eq!(settings.to_bytes(), [0, 0, 0, 1, 0, 0, 0, 2, 0, 0, 0, 3, 0, 0, 0, 4]);
@@ -49,43 +51,31 @@ fn records_and_states() {
     assert_eq!((record.height, record.body, record.votes), (1_024, &QUIET[10..votes - 3], &QUIET[votes..]));
     assert_eq!(read_record(&[2], MAINNET_VOTES_SIZE), RecordAt::Malformed);
     assert_eq!((state.settings(), state.table(), state.next_height()), (Settings::of(Network::Mainnet), mainnet(), 1_024));
-    assert_eq!(state.replay(&[&QUIET[..votes], &[0, 1, 0, 1, 0, 0], &QUIET[votes + 6..]].concat()), Ok(()));
-    assert_eq!((state.next_height(), state.tally().entries()), (2_048, vec![Entry { id: 1, count: 2 }]));
+    assert_eq!(state.replay(&[&QUIET[..votes], &[0, 255, 0, 255, 0, 0], &QUIET[votes + 6..]].concat()), Ok(()));
+    assert_eq!((state.next_height(), state.tally().entries()), (2_048, vec![Entry { id: -1, count: 2 }]));
 }
 
 #[test]
 fn bodies_and_updates_there_and_back() {
-    let field = |size| Field { key: [2, 3], value: vec![7; size] };
-    let fields = [vec![field(4); 9_300], vec![field(0), field(64)]].concat();
+    let field = |size| Field { key: [0, 124], value: vec![7; size] };
+    let fields = [vec![field(64)], vec![field(4); 9_200], vec![field(0), field(64)]].concat();
     let body = pack_extension_bytes(&ID, &fields).expect("a body");
     let read = parse_extension_bytes(&body).expect("a body");
-    assert_eq!((read.header_id(), read.fields()), (ID, fields));
+    assert_eq!((read.header_id(), read.fields(), extract_disabling_rules_from_kv(&body)), (ID, fields, vec![7; 64]));
+    assert_eq!(
+        [256, 65_536].map(|size| pack_extension_bytes(&ID, &[field(size)])),
+        [const { Err(Refusal::WrittenValueLong) }; 2]
+    );
     let status = |rule, raw: &[u8]| Status { rule, code: 9, raw: raw.to_vec() };
     let (rules, statuses) = (vec![215, 409], vec![status(1_000, &[7, 8]), status(32_767, &[])]);
     let bytes = encode_validation_settings_update(&rules, &statuses).expect("an update");
     let read = parse_validation_settings_update(&bytes).expect("an update");
     assert_eq!((read.rules(), read.statuses()), (rules, statuses));
+    let written = |count| encode_validation_settings_update(&[], &vec![status(1_000, &[]); count]).map(|bytes| bytes.len());
+    assert_eq!([65_536, 65_537].map(written), [Ok(1 + 3 + 3 * 65_536), Err(Refusal::InputLong)]);
     let all: Parameters = (i8::MIN..=i8::MAX).map(|id| (id, i32::from(id))).collect();
     let body = pack_extension_bytes(&ID, &pack_parameters_to_kv(&all)).expect("a body");
     assert_eq!(parse_parameters_from_kv(&body), Ok(all.into_iter().filter(|(id, _)| *id != 124).collect()));
-}
-
-#[test]
-fn long_lists() {
-    let votes = |count| [120, 0, 0].repeat(count);
-    assert_eq!(check_headers(&[votes(70_000), vec![1, 2, 3]].concat()), Err(Refusal::TooManyVotes));
-    let tally = |count| tally_votes_seeded(0, &votes(count), count as u32, count as u32).map(|tally| tally.entries());
-    assert_eq!([65_536, 65_537].map(tally), [Ok(vec![Entry { id: 120, count: 65_536 }]), Err(Refusal::InputLong)]);
-    let field = |size| Field { key: [2, 3], value: vec![7; size] };
-    let status = Status { rule: 1_000, code: 9, raw: vec![] };
-    for (count, size) in [(65_536, Ok(3 * 65_536)), (65_537, Err(Refusal::InputLong))] {
-        let is = |written: Result<Vec<u8>, Refusal>, more| assert_eq!(written.map(|bytes| bytes.len() - more), size);
-        is(pack_extension_bytes(&ID, &vec![field(0); count]), 32 + 3);
-        is(encode_validation_settings_update(&[], &vec![status.clone(); count]), 1 + 3);
-        is(encode_disabled_rules(&vec![u16::MAX; count]), 3 + 1);
-    }
-    let refused = |size| pack_extension_bytes(&ID, &[field(size)]) == Err(Refusal::WrittenValueLong);
-    assert_eq!([64, 65, 255, 256, 65_536].map(refused), [false, true, true, true, true]);
 }
 
 #[test]
@@ -96,9 +86,9 @@ fn entries_in_any_order() {
         let mut ids = vec![1, 120, -3, 8];
         let mut tally = [order / 6, order / 2 % 3, order % 2, 0].map(|at| Entry { id: ids.remove(at), count: 513 }).to_vec();
         tally.extend(vec![Entry { id: 2, count: 512 }; 70_000]);
-        let settings = Settings::of(Network::Mainnet);
-        let computed = compute_boundary_parameters(&tally, &[1, 0xd7, 1, 0], &settings, 66_560, &old, false).expect("a table");
-        assert_eq!((computed.table, computed.activated.rules()), (new, vec![215]));
+        let computed =
+            compute_boundary_parameters(&tally, &[1, 0xd7, 1, 0], &Settings::of(Network::Mainnet), 66_560, &old, false);
+        assert_eq!(computed.map(|it| (it.table, it.activated.rules())), Ok((new, vec![215])));
     }
 }
 
