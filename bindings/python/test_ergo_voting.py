@@ -21,7 +21,6 @@ QUIET = (ROOT / "crates/replay/stdin").read_bytes()  # one epoch without votes, 
 FLAGS = ("soft_fork_approved", "change_approved", "rule_may_not_be_disabled")
 LIMITS = ("parameter_min", "parameter_max", "parameter_step")
 CELLS = "&mut [u8]"
-UNTOUCHED = b"\xee"
 ID = b"\xa5" * 32
 FORK = bytes((120, 0, 0))
 MAINNET = Table.default_parameters(Network.MAINNET)
@@ -34,14 +33,19 @@ class Case(unittest.TestCase):
         self.assertEqual((caught.exception.number, caught.exception.id), (number, id))
 
 
+def bytes_of(word):
+    """Pieces with `+` between them: hexadecimal bytes, as often as the count after a `*` says. `-` is none."""
+    pieces = (piece.partition("*") for piece in word.replace("-", "").split("+"))
+    return b"".join(bytes.fromhex(digits) * int(count or 1) for digits, _, count in pieces)
+
+
 def rows(file):
     """Each row: its line, the call's name, the arguments, the refusal's number, and the bytes."""
-    data = lambda word: bytes.fromhex(word.replace("-", ""))
     for line in (ROOT / "crates/vectors/data" / file).read_text().splitlines():
         if line and not line.startswith("#"):
             asked, answer = line.split(" = ")
             name, *arguments = asked.split(" ")
-            yield line, name, [data(word) for word in arguments], int(answer[:2]), data(answer[3:])
+            yield line, name, [bytes_of(word) for word in arguments], int(answer[:2]), bytes_of(answer[3:])
 
 
 def signature(name):
@@ -151,11 +155,10 @@ class Rows(Case):
             self.assertEqual(function(*asked), None if name.startswith("check_") else data)
 
     def lent(self, name, arguments, number, data):
-        """Asks the library's own function, over as many cells as it fills, more of them, and one too few. Refused, it fills none.
-        A replay has its state in them."""
+        """Asks the library's own function, over cells of several lengths. Refused, it fills none. A replay has its state in them."""
         kinds = [kind for _, kind in signature(name)[0]]
-        cells, *parts = arguments if name == "replay" else (UNTOUCHED * (0 if number else len(data)), *arguments)
-        lengths = [(cells + UNTOUCHED * more, number, (cells if number else data) + UNTOUCHED * more) for more in (0, 3, 999)]
+        cells, *parts = arguments if name == "replay" else (b"\xee" * (0 if number else len(data)), *arguments)
+        lengths = [(cells + b"\xee" * more, number, (cells if number else data) + b"\xee" * more) for more in (0, 3, 999)]
         if CELLS not in kinds:
             lengths = [(b"", number, b"")]
         elif cells and name != "replay":
@@ -207,7 +210,8 @@ class Values(Case):
         state.replay(QUIET[:-MAINNET_VOTES_SIZE] + bytes((0, 1, 0, 1, 0, 0)) + QUIET[6 - MAINNET_VOTES_SIZE :])
         self.assertEqual((state.next_height, state.tally.entries()), (2_048, [Entry(1, 2)]))
 
-    def test_what_has_no_place_raises(self):
+    def test_what_is_raised(self):
+        self.assertEqual(str(Refused(15, 3)), "refused by 15: a computed entry is missing or different in the extension: id 3")
         self.assertRaises(KeyError, MAINNET.with_entry, 120, 1)
         self.assertRaises(ValueError, Table.from_bytes, bytes(59))
         self.assertRaises(ValueError, State, bytes(96))
@@ -217,19 +221,16 @@ class Values(Case):
         self.assertRaises(OverflowError, Window, 2**32)
         self.assertRaises(OverflowError, State.open, -1, MAINNET)
         self.assertRaises(OverflowError, ergo.check_block_version, MAINNET.with_entry(1, 2**31), 1)
-        self.assertRaises(OverflowError, ergo.encode_disabled_rules, [65_536])
-
-    def test_refusals(self):
-        self.assertEqual(str(Refused(15, 3)), "refused by 15: a computed entry is missing or different in the extension: id 3")
 
     def test_there_and_back(self):
         update = Update([215, 409], [Status(1_000, 9, b"\7\7"), Status(32_767, 9, b"")])
         data = ergo.encode_validation_settings_update(update.rules, update.statuses)
         self.assertEqual(ergo.parse_validation_settings_update(data), update)
-        fields = [Field(b"\2\3", b""), Field(b"\2\3", bytes(64))]
-        self.assertEqual(ergo.parse_extension_bytes(ergo.pack_extension_bytes(ID, fields)), Extension(ID, fields))
-        for size in (65, 255, 256, 65_536):
-            self.refused(Refusal.WRITTEN_VALUE_LONG, ergo.pack_extension_bytes, ID, [Field(b"\2\3", bytes(size))])
+        fields = [Field(b"\2\3", b""), Field(b"\0\x7c", bytes(64))]
+        body = ergo.pack_extension_bytes(ID, fields)
+        self.assertEqual(ergo.parse_extension_bytes(body), Extension(ID, fields))
+        self.assertEqual(ergo.extract_disabling_rules_from_kv(body), bytes(64))
+        self.refused(Refusal.WRITTEN_VALUE_LONG, ergo.pack_extension_bytes, ID, [Field(b"\2\3", bytes(256))])
 
     def test_every_legal_header(self):
         headers = list(ergo.legal_votes())
@@ -240,8 +241,7 @@ class Values(Case):
         paths = [*(ROOT / "crates/replay_streams/data").glob("[!w]*.records")]  # w is for wrong
         self.assertGreater(len(paths), 20)
         for path in paths:
-            with self.subTest(path.stem):
-                self.assertEqual(printed(path.read_bytes()), path.with_suffix(".lines").read_text())
+            self.assertEqual(printed(path.read_bytes()), path.with_suffix(".lines").read_text(), path.stem)
 
     def test_records_and_lines(self):
         record = ergo.read_record(QUIET + QUIET, MAINNET_VOTES_SIZE)

@@ -1,4 +1,4 @@
-//! What rows can't say: values there and back, long lists, orders of entries, bytes that are missing, and a stream replayed.
+//! What rows can't say: bytes that are missing, names and parts of values, lists there and back, orders of entries, a stream.
 
 use ergo_voting::ffi::{ergo_check_block_version, ergo_check_header_votes, ergo_replay, ergo_soft_fork_approved};
 use ergo_voting::*;
@@ -19,7 +19,6 @@ fn with(table: Table, entries: &[(u8, i32)]) -> Table {
 fn every_legal_header() {
     let all: Vec<[u8; 3]> = legal_votes().collect();
     assert_eq!((all.len(), all[0], all[all.len() - 1]), (381_787, [0; 3], [255, 254, 120]));
-    assert_eq!(check_headers(&[all.concat(), vec![1, 2, 3]].concat()), Err(Refusal::TooManyVotes));
     assert!(all.is_sorted_by(|before, after| before < after) && check_headers(&all.concat()).is_ok());
 }
 
@@ -50,6 +49,7 @@ fn records_and_states() {
     let RecordAt::Whole(record) = read_record(QUIET, MAINNET_VOTES_SIZE) else { panic!("a record") };
     assert_eq!((record.height, record.body, record.votes), (1_024, &QUIET[10..votes - 3], &QUIET[votes..]));
     assert_eq!(read_record(&[2], MAINNET_VOTES_SIZE), RecordAt::Malformed);
+    assert_eq!(Refusal::EntryDiffers { id: 3 }.to_string(), "a computed entry is missing or different in the extension: id 3");
     assert_eq!((state.settings(), state.table(), state.next_height()), (Settings::of(Network::Mainnet), mainnet(), 1_024));
     assert_eq!(state.replay(&[&QUIET[..votes], &[0, 255, 0, 255, 0, 0], &QUIET[votes + 6..]].concat()), Ok(()));
     assert_eq!((state.next_height(), state.tally().entries()), (2_048, vec![Entry { id: -1, count: 2 }]));
@@ -62,10 +62,7 @@ fn bodies_and_updates_there_and_back() {
     let body = pack_extension_bytes(&ID, &fields).expect("a body");
     let read = parse_extension_bytes(&body).expect("a body");
     assert_eq!((read.header_id(), read.fields(), extract_disabling_rules_from_kv(&body)), (ID, fields, vec![7; 64]));
-    assert_eq!(
-        [256, 65_536].map(|size| pack_extension_bytes(&ID, &[field(size)])),
-        [const { Err(Refusal::WrittenValueLong) }; 2]
-    );
+    assert_eq!(pack_extension_bytes(&ID, &[field(256)]), Err(Refusal::WrittenValueLong));
     let status = |rule, raw: &[u8]| Status { rule, code: 9, raw: raw.to_vec() };
     let (rules, statuses) = (vec![215, 409], vec![status(1_000, &[7, 8]), status(32_767, &[])]);
     let bytes = encode_validation_settings_update(&rules, &statuses).expect("an update");
@@ -86,9 +83,8 @@ fn entries_in_any_order() {
         let mut ids = vec![1, 120, -3, 8];
         let mut tally = [order / 6, order / 2 % 3, order % 2, 0].map(|at| Entry { id: ids.remove(at), count: 513 }).to_vec();
         tally.extend(vec![Entry { id: 2, count: 512 }; 70_000]);
-        let computed =
-            compute_boundary_parameters(&tally, &[1, 0xd7, 1, 0], &Settings::of(Network::Mainnet), 66_560, &old, false);
-        assert_eq!(computed.map(|it| (it.table, it.activated.rules())), Ok((new, vec![215])));
+        let asked = compute_boundary_parameters(&tally, &[1, 0xd7, 1, 0], &Settings::of(Network::Mainnet), 66_560, &old, false);
+        assert_eq!(asked.map(|it| (it.table, it.activated.rules())), Ok((new, vec![215])));
     }
 }
 

@@ -23,8 +23,7 @@ fn support_is_what_a_recount_gives() {
             }
             assert!(put.is_ok() || window == before, "a refused header leaves the window");
             let last = &entered[entered.len().saturating_sub(length)..];
-            assert_eq!((window.length() as usize, window.held() as usize), (length, last.len()));
-            assert_eq!(window.supports(), &recount(last));
+            assert_eq!((window.length(), window.held(), *window.supports()), (length as u32, last.len() as u32, recount(last)));
         }
         assert!(entered.len() > 3 * length && [9, 10, 11].iter().all(|number| refusals.contains(number)));
     }
