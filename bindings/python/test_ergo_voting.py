@@ -155,7 +155,7 @@ class Rows(Case):
             self.assertEqual(function(*asked), None if name.startswith("check_") else data)
 
     def lent(self, name, arguments, number, data):
-        """Asks the library's own function, over cells of several lengths. Refused, it fills none. A replay has its state in them."""
+        """Asks the library's own function over cells of several lengths. Refused, it fills none. A replay has its state there."""
         kinds = [kind for _, kind in signature(name)[0]]
         cells, *parts = arguments if name == "replay" else (b"\xee" * (0 if number else len(data)), *arguments)
         lengths = [(cells + b"\xee" * more, number, (cells if number else data) + b"\xee" * more) for more in (0, 3, 999)]
