@@ -4,5 +4,5 @@ set -euo pipefail
 cd "$(dirname "$0")/.."
 rt check replay | tail -n 1
 rt staticlib exports | tail -n 1
-cargo build --quiet --release --offline --manifest-path oracle/bench/Cargo.toml
-exec oracle/bench/target/release/bench
+cargo build --quiet --release --offline --package bench
+exec target/release/bench

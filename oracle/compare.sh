@@ -3,5 +3,5 @@
 set -euo pipefail
 cd "$(dirname "$0")/.."
 rt staticlib exports | tail -n 1
-cargo build --quiet --release --offline --manifest-path oracle/compare/Cargo.toml
-exec oracle/compare/target/release/compare "${1:-1}"
+cargo build --quiet --profile checked --offline --package compare
+exec target/checked/compare "${1:-1}"
