@@ -1,9 +1,11 @@
-//! The Rust of the request, run: its answers by document 01's numbers, and a replay over it.
+//! The Rust node's voting code, run: its answers by the numbers of docs/RULES.md, and a replay over it.
 
 pub mod answers;
+pub mod bytes;
+pub mod call;
 pub mod inputs;
 pub mod listing;
-pub mod lists;
+mod places;
 pub mod record;
 pub mod refusal;
 pub mod replay;
@@ -11,4 +13,4 @@ pub mod rows;
 pub mod rules;
 pub mod streams;
 pub mod table;
-mod text;
+pub mod text;

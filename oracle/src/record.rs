@@ -1,4 +1,4 @@
-//! The bytes of a record, as document 01 has them. Nothing of this is in the Rust.
+//! The bytes of a record, as docs/RULES.md has them. Nothing of this is in the Rust.
 
 use crate::refusal::{refuse, Refusal};
 use crate::rules::Votes;

@@ -1,4 +1,4 @@
-//! From what the Rust says to document 01's numbers.
+//! From what the Rust says to the numbers of docs/RULES.md.
 
 use chain::ChainError;
 use validation::ValidationError;
@@ -22,7 +22,7 @@ fn by_number(number: u8) -> Refusal {
 }
 
 /// An error of the Rust: its variant, how its text begins, what else stands in it, and the number. The first row that fits
-/// counts. Not in the Rust are 12 (its fork check says no), 18, 21, 22, 24 (document 01 alone), 25 and 26 (the replay).
+/// counts. Not in the Rust are 12 (its fork check says no), 18, 21, 22, 24 (the rules alone), 25 and 26 (the replay).
 pub const ERRORS: [(&str, &str, &str, u8); 21] = [
     ("ExtensionParse", "extension body too short: ", "", 1),
     ("ExtensionParse", "VLQ field_count: ", "", 2),

@@ -1,4 +1,4 @@
-//! The replay: document 01's order of tests over the Rust's functions, and what program `replay` prints.
+//! The replay: the rules' order of tests over the Rust's functions, and what program `replay` prints.
 
 use chain::Network;
 use ergo_lib::chain::parameters::{Parameter, Parameters};
@@ -90,7 +90,7 @@ fn check_fork_votes(headers: &[(u32, Votes)], table: &Parameters) -> Result<(), 
 pub const HEAD_LINE: &str = "height version start votes\n";
 
 /// What program `replay` prints for an input of records one after another.
-pub fn replay_stream(bytes: &[u8]) -> Vec<u8> {
+pub fn replay_stream(bytes: &[u8]) -> String {
     let mut printed = String::from(HEAD_LINE);
     let mut state = open_mainnet();
     let mut rest = bytes;
@@ -109,8 +109,7 @@ pub fn replay_stream(bytes: &[u8]) -> Vec<u8> {
             }
         }
     }
-    printed += &end_line(accepted, refusal);
-    printed.into_bytes()
+    printed + &end_line(accepted, refusal)
 }
 
 /// The height of the record at the front, the state after it, and the bytes after it.

@@ -1,150 +1,173 @@
-//! Recorded answers of the Rust: rows in the form of docs/VECTORS.md.
+//! Recorded answers of the Rust, in the form of docs/VECTORS.md: written, and asked again.
 
 use std::collections::BTreeMap;
 use std::fs;
 use std::io;
 use std::path::Path;
 
-use crate::answers::{answer, Gap};
+use crate::answers::answer;
+use crate::bytes::numbers;
+use crate::call::{Answer, Call, Gap};
 use crate::inputs::random::Random;
-use crate::inputs::{bodies, voting, Asked, Kind, KINDS};
-use crate::text::hex;
+use crate::inputs::{bodies, boundaries, voting, KINDS};
+use crate::streams::refused;
+use crate::text;
 
 const SEED: u64 = 1;
 const MOST_TIMES: usize = 30_000;
-const LARGEST_SUM: usize = 4_000_000;
+const LARGEST: usize = 600_000;
 
-/// How many bytes an input and its answer have at most; a record is longer.
-const LONGEST: usize = 700;
+/// How many bytes a call and its answer have at most; a replay is longer.
+const LONGEST: usize = 260;
 
-/// The calls that have a row, the Rust's function, how many rows each refusal gets, and the refusals. Of an answer without one it
-/// is the flag, or 0.
-const CALLS: [(u8, &str, usize, &[u8]); 32] = [
-    (0x11, "check_header_votes", 60, &[0, 9, 10, 11]),
-    (0x13, "tally_votes_seeded", 100, &[0]),
-    (0x15, "check_fork_vote", 80, &[0, 12, 19]),
-    (0x16, "compute_boundary_parameters", 80, &[0, 13, 14, 17, 19, 20]),
-    (0x19, "check_block_version", 40, &[0, 16, 20]),
-    (0x1a, "default_parameters", 2, &[0]),
-    (0x1d, "VotingConfig::soft_fork_approved", 60, &[0, 1]),
-    (0x1e, "VotingConfig::change_approved", 60, &[0, 1]),
-    (0x1f, "parameter_min, parameter_max, parameter_step", 256, &[0]),
-    (0x22, "VotingConfig::mainnet, VotingConfig::testnet", 2, &[0]),
-    (0x23, "check_header_votes, of all headers", 1, &[0]),
-    (0x25, "parse_extension_bytes", 25, &[0, 1, 2, 3, 4, 5]),
-    (0x26, "parse_extension_bytes, the id", 40, &[0]),
-    (0x29, "extract_disabling_rules_from_kv", 60, &[0]),
-    (0x2a, "parse_extension_bytes, parse_parameters_from_kv", 25, &[0, 1, 2, 3, 4, 5, 6]),
-    (0x2b, "parse_parameters_from_kv", 30, &[0, 1, 2, 3, 4, 5, 6]),
-    (0x2c, "check_parameters_v6", 60, &[0, 15]),
-    (0x2d, "parse_validation_settings_update", 60, &[0, 7, 8]),
-    (0x2e, "parse_validation_settings_update, rules and statuses", 60, &[0, 7, 8]),
-    (0x2f, "parse_validation_settings_update, rules that may not be disabled", 600, &[0, 1]),
-    (0x30, "compute_boundary_parameters, with an update", 60, &[0, 7, 8, 13, 14, 17, 19, 20]),
-    (0x31, "pack_extension_bytes", 60, &[0, 21]),
-    (0x32, "pack_parameters_to_kv", 60, &[0, 21]),
-    (0x33, "encode_validation_settings_update", 60, &[0, 21, 23]),
-    (0x34, "encode_disabled_rules", 60, &[0, 21]),
-    (0x35, "parse_extension_bytes, the fields", 25, &[0, 1, 2, 3, 4, 5]),
-    (0x36, "parse_extension_bytes, parse_parameters_from_kv, of all short bodies", 1, &[0]),
-    (0x37, "parse_validation_settings_update, of all short updates", 1, &[0]),
-    (0x38, "parse_extension_bytes, parse_parameters_from_kv, of the cuts of a body", 20, &[0]),
-    (0x39, "parse_validation_settings_update, of the cuts of an update", 40, &[0]),
-    (0x3b, "check_header_votes, of headers one after another", 30, &[0, 9, 10, 11]),
-    (0x3d, REPLAY, 6, &[0, 1, 2, 3, 4, 5, 6, 7, 8, 9, 10, 11, 12, 13, 14, 15, 19, 20, 25, 26]),
+/// How many characters of a row are printed.
+const MOST_PRINTED: usize = 300;
+
+/// The calls that have rows, the Rust's function, how many rows each number gets beside the chosen ones, and the numbers that it must
+/// have. A flag counts as a number.
+const CALLS: [(&str, &str, usize, &[u8]); 29] = [
+    ("check_header_votes", "check_header_votes", 25, &[0, 9, 10, 11]),
+    ("check_headers", "check_header_votes, of headers one after another", 15, &[0, 9, 10, 11]),
+    ("tally_votes_seeded", "tally_votes_seeded", 25, &[0]),
+    ("check_fork_vote", "check_fork_vote", 20, &[0, 12, 19]),
+    ("compute_boundary_parameters", "compute_boundary_parameters", 18, &[0, 7, 8, 13, 14, 17, 19, 20]),
+    ("check_parameters_v6", "check_parameters_v6", 20, &[0, 15]),
+    ("check_block_version", "check_block_version", 15, &[0, 16, 20]),
+    ("default_parameters", "default_parameters", 0, &[0]),
+    ("voting_config", "VotingConfig::mainnet, VotingConfig::testnet", 0, &[0]),
+    ("soft_fork_approved", "VotingConfig::soft_fork_approved", 25, &[0, 1]),
+    ("change_approved", "VotingConfig::change_approved", 25, &[0, 1]),
+    ("parameter_min", "parameter_min", 0, &[0]),
+    ("parameter_max", "parameter_max", 0, &[0]),
+    ("parameter_step", "parameter_step", 0, &[0]),
+    ("check_body", "parse_extension_bytes, parse_parameters_from_kv", 12, &[0, 1, 2, 3, 4, 5, 6]),
+    ("parse_extension_bytes", "parse_extension_bytes", 12, &[0, 1, 2, 3, 4, 5]),
+    ("field_at", "parse_extension_bytes, of a body with that field", 12, &[0, 3, 4, 5]),
+    ("parse_parameters_from_kv", "parse_extension_bytes, parse_parameters_from_kv", 12, &[0, 1, 2, 3, 4, 5, 6]),
+    ("extract_disabling_rules_from_kv", "parse_extension_bytes, extract_disabling_rules_from_kv", 20, &[0]),
+    ("parse_validation_settings_update", "parse_validation_settings_update", 30, &[0, 7, 8]),
+    ("rule_at", "parse_validation_settings_update, of an update with that number", 20, &[0, 7]),
+    ("status_at", "parse_validation_settings_update, of an update with that status", 20, &[0, 7]),
+    ("rule_may_not_be_disabled", "parse_validation_settings_update, of an update with that rule", 0, &[0, 1]),
+    ("pack_extension_bytes", "pack_extension_bytes", 15, &[0]),
+    ("pack_parameters_to_kv", "pack_parameters_to_kv", 15, &[0]),
+    ("encode_validation_settings_update", "encode_validation_settings_update", 20, &[0, 23]),
+    ("encode_disabled_rules", "encode_disabled_rules", 15, &[0]),
+    ("open", "the oracle's opening", 15, &[0, 26]),
+    ("replay", REPLAY, 2, &[0, 1, 2, 3, 4, 5, 6, 7, 8, 9, 10, 11, 12, 13, 14, 15, 19, 20, 25, 26]),
 ];
 
-const REPLAY: &str =
-    "check_header_votes, check_fork_vote, parse_extension_bytes, parse_parameters_from_kv, compute_boundary_parameters, \
-    check_parameters_v6, tally_votes_seeded: the oracle's replay over them";
+const REPLAY: &str = "check_header_votes, check_fork_vote, parse_extension_bytes, parse_parameters_from_kv, \
+    compute_boundary_parameters, check_parameters_v6, tally_votes_seeded: the oracle's replay over them";
 
-/// The programs that run the rows, and the last call of each.
-const PROGRAMS: [(&str, u8); 3] = [("vectors", 0x24), ("extension_vectors", 0x39), ("replay_vectors", 0x41)];
+const FLAGS: [&str; 3] = ["soft_fork_approved", "change_approved", "rule_may_not_be_disabled"];
 
-type Rows = BTreeMap<(u8, u8), Vec<String>>;
+/// The rows of each call and number.
+type Rows = BTreeMap<(&'static str, u8), Vec<String>>;
 
-/// Writes PROGRAM/data/rust.rows for each program, and answers a line for each.
-pub fn write(folder: &Path) -> io::Result<Vec<String>> {
+/// Writes the rows, each call's under a comment with the Rust's function, and answers how many there are.
+pub fn write(file: &Path) -> io::Result<Vec<String>> {
     let rows = rows();
-    let mut report = Vec::new();
-    let (mut first, mut sum) = (0, 0);
-    for (program, last) in PROGRAMS {
-        let text = text(&rows, first..=last);
-        first = last + 1;
-        sum += text.len();
-        let file = folder.join(program).join("data");
-        fs::create_dir_all(&file)?;
-        fs::write(file.join("rust.rows"), &text)?;
-        let count = text.lines().filter(|line| !line.starts_with('#')).count();
-        report.push(format!("{program}: {count} rows, {} bytes", text.len()));
+    let (mut text, mut count) = (String::new(), 0);
+    for (name, function, _, numbers) in CALLS {
+        text += &format!("# {name}: {function}\n");
+        for row in numbers.iter().flat_map(|number| &rows[&(name, *number)]) {
+            text += row;
+            count += 1;
+        }
     }
-    assert!(sum < LARGEST_SUM, "{sum} bytes in all");
-    Ok(report)
-}
-
-/// The rows of some calls, each call's under a comment with the Rust's function.
-fn text(rows: &Rows, calls: std::ops::RangeInclusive<u8>) -> String {
-    let mut text = String::new();
-    for (call, function, _, refusals) in CALLS.iter().filter(|(call, ..)| calls.contains(call)) {
-        text += &format!("# {function}\n");
-        refusals.iter().flat_map(|refusal| &rows[&(*call, *refusal)]).for_each(|row| text += row);
-    }
-    text
+    assert!(text.len() <= LARGEST, "{} bytes in all", text.len());
+    fs::write(file, &text)?;
+    Ok(vec![format!("{count} rows, {} bytes", text.len())])
 }
 
 fn rows() -> Rows {
     let mut rows = Rows::new();
-    chosen().iter().for_each(|asked| add(&mut rows, asked));
-    for kind in KINDS {
-        add_kind(&mut rows, &kind);
+    for refused in refused::orders() {
+        assert_eq!(answer(&refused.call()).map(|answer| answer.number), Ok(refused.number));
+        add(&mut rows, &refused.call(), usize::MAX);
     }
-    for (call, _, _, refusals) in CALLS {
-        let given: Vec<u8> = rows.keys().filter(|key| key.0 == call).map(|key| key.1).collect();
-        assert_eq!(given, refusals, "the refusals of call {call:02x}");
+    refused::streams().iter().for_each(|refused| add_few(&mut rows, &refused.call()));
+    let mut random = Random::new(SEED);
+    (0..5_000).for_each(|_| {
+        add_few(&mut rows, &Call::new("check_header_votes", [voting::votes(&mut random).to_vec()]));
+    });
+    for kind in KINDS {
+        let mut random = Random::new(SEED);
+        (0..kind.times.min(MOST_TIMES)).flat_map(|_| (kind.make)(&mut random)).for_each(|call| add_few(&mut rows, &call));
+    }
+    chosen().iter().for_each(|call| add(&mut rows, call, usize::MAX));
+    for (name, _, _, numbers) in CALLS {
+        let given: Vec<u8> = rows.keys().filter(|key| key.0 == name).map(|key| key.1).collect();
+        assert_eq!(given, numbers, "the numbers of {name}");
     }
     rows
 }
 
-fn add_kind(rows: &mut Rows, kind: &Kind) {
-    let mut random = Random::new(SEED);
-    for _ in 0..kind.times.min(MOST_TIMES) {
-        (kind.make)(&mut random).iter().for_each(|asked| add(rows, asked));
-    }
+/// A row is kept while its call and number have fewer than they get; those that are not refused get twice as many.
+fn add_few(rows: &mut Rows, call: &Call) {
+    let Some((.., most, _)) = CALLS.iter().find(|row| row.0 == call.name) else { return };
+    add(rows, call, *most);
 }
 
-/// A row is kept while its call and refusal have fewer than they get; those that are not refused get twice as many.
-fn add(rows: &mut Rows, (call, input): &Asked) {
-    let Some((_, _, most, _)) = CALLS.iter().find(|row| row.0 == *call) else { return };
-    let answer = match answer(*call, input) {
-        Ok(answer) => answer,
-        Err(Gap::Outside) => return,
-        Err(Gap::NoCounterpart) => panic!("call {call:02x} has no counterpart for {}", hex(input)),
+/// Program `vectors` asks a boundary on three entries at most, none of them with id 0.
+fn add(rows: &mut Rows, call: &Call, most: usize) {
+    let few = call.name != "compute_boundary_parameters"
+        || call.arguments[0].len() <= 15 && call.arguments[0].chunks(5).all(|entry| entry[0] != 0);
+    let given = match answer(call) {
+        Ok(given) if few => given,
+        Ok(_) | Err(Gap::Outside) => return,
+        Err(Gap::NoCounterpart) => panic!("no counterpart for {}", text::call(call)),
     };
-    let refusal = refusal(*call, &answer);
-    let kept = rows.entry((*call, refusal)).or_default();
-    let most = if refusal == 0 { 2 * most } else { *most };
-    if kept.len() < most && (*call == 0x3d || input.len() + answer.len() <= LONGEST) {
-        kept.push(format!("{call:02x} {} {}\n", hex(input), hex(&answer)));
+    let number = if FLAGS.contains(&call.name) { given.bytes[0] } else { given.number };
+    let kept = rows.entry((call.name, number)).or_default();
+    let most = if number == 0 { most.saturating_mul(2) } else { most };
+    let row = text::row(call, &given);
+    if kept.len() < most && (call.name == "replay" || call.size() + given.bytes.len() <= LONGEST) && !kept.contains(&row) {
+        kept.push(row);
     }
 }
 
-fn refusal(call: u8, answer: &[u8]) -> u8 {
-    match call {
-        0x15 => answer[1],
-        0x1a | 0x1f | 0x22 | 0x23 | 0x26 | 0x29 | 0x36..=0x39 => 0,
-        _ => answer[0],
+/// Calls whose rows are kept in any case.
+fn chosen() -> Vec<Call> {
+    let mut chosen = [boundaries::chosen(), bodies::several()].concat();
+    for network in [0, 1, 2, 255] {
+        chosen.extend(["default_parameters", "voting_config"].map(|name| Call::new(name, [vec![network]])));
     }
-}
-
-/// Inputs that are no kind of their own, since they are compared whole.
-fn chosen() -> Vec<Asked> {
-    let mut random = Random::new(SEED);
-    let mut chosen: Vec<Asked> = [0x23, 0x36, 0x37].into_iter().map(|call| (call, Vec::new())).collect();
-    chosen.extend([(0x1a, vec![0]), (0x1a, vec![1]), (0x22, vec![0]), (0x22, vec![1])]);
-    chosen.extend((0..5_000).map(|_| (0x11, voting::votes(&mut random).to_vec())));
-    chosen.extend((0..=255).map(|id| (0x1f, vec![id])));
-    chosen.extend(bodies::several());
-    let rules = (0..=520).chain([1_000, 32_767, 32_768, 65_535u32]);
-    chosen.extend(rules.map(|rule| (0x2f, rule.to_be_bytes().to_vec())));
+    for id in (0..=12).chain(118..=138).chain(244..=255) {
+        chosen.extend(["parameter_min", "parameter_max", "parameter_step"].map(|name| Call::new(name, [vec![id]])));
+    }
+    let edges = [95..=125, 198..=218, 298..=309, 401..=410, 498..=503, 999..=1_001, 32_767..=32_768, 65_534..=65_535];
+    chosen.extend(edges.into_iter().flatten().map(|rule| Call::new("rule_may_not_be_disabled", [numbers(&[rule])])));
     chosen
+}
+
+/// What rows of a file the Rust answers otherwise, and a last line with how many were asked, differ, and can't be asked.
+pub fn check(file: &Path) -> io::Result<(Vec<String>, usize)> {
+    let (mut report, mut asked, mut gaps) = (Vec::new(), 0, 0);
+    let rows = fs::read_to_string(file)?;
+    for line in rows.lines().filter(|line| !line.is_empty() && !line.starts_with('#')) {
+        match checked(line) {
+            Ok(None) => asked += 1,
+            Ok(Some(answer)) => {
+                asked += 1;
+                report.push(format!("differs: {}\n  the Rust: {}", shown(line), shown(&answer)));
+            }
+            Err(_) => gaps += 1,
+        }
+    }
+    let differ = report.len();
+    report.push(format!("{}: {asked} rows asked, {differ} differ, {gaps} not asked", file.display()));
+    Ok((report, differ))
+}
+
+/// The Rust's answer to a row if it differs. A row out of form differs.
+fn checked(line: &str) -> Result<Option<String>, Gap> {
+    let Some((call, expected)) = text::read(line, &CALLS.map(|row| row.0)) else { return Ok(Some("out of form".to_owned())) };
+    let given: Answer = answer(&call)?;
+    Ok((given != expected).then(|| text::answer(&given)))
+}
+
+fn shown(text: &str) -> String {
+    text.chars().take(MOST_PRINTED).collect()
 }

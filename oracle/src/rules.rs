@@ -1,4 +1,4 @@
-//! Thin functions over the Rust's own. A test marked "document 01 alone" is ours: the Rust has none, or can't be run there.
+//! Thin functions over the Rust's own. A test marked "the rules alone" is ours: the Rust has none, or can't be run there.
 //! 21 can't be met: no output is lent.
 
 use chain::voting::{self, ExtensionField, ValidationSettingsUpdate, VotingConfig};
@@ -57,7 +57,7 @@ pub fn parse_body(body: &[u8]) -> Result<([u8; 32], Vec<ExtensionField>), Refusa
     Ok((id.0 .0, fields))
 }
 
-/// Document 01 alone: the Rust reserves memory by the declared count. A body that declares more than 65,536 fields is handed
+/// The rules alone: the Rust reserves memory by the declared count. A body that declares more than 65,536 fields is handed
 /// to it with 65,536 declared. It has room for fewer than 22,000, so both end at the same field, by 3, 4 or 5.
 fn with_count_lowered(body: &[u8]) -> Vec<u8> {
     let Some((id, mut rest)) = body.split_at_checked(32) else { return body.to_vec() };
@@ -81,7 +81,7 @@ pub fn body_parameters(body: &[u8]) -> Result<(Map, Vec<u8>), Refusal> {
 
 pub fn pack_body(id: [u8; 32], fields: &[ExtensionField]) -> Result<Vec<u8>, Refusal> {
     at_most(fields.len(), MOST)?;
-    // Document 01 alone: the Rust cuts a longer length to a byte.
+    // The rules alone: the Rust cuts a longer length to a byte.
     if fields.iter().any(|(_, value)| value.len() > LONGEST_VALUE) {
         return refuse(24);
     }
@@ -133,7 +133,7 @@ pub fn default_parameters(network: Network) -> Parameters {
     voting::default_parameters(network)
 }
 
-/// Document 01 alone: 22.
+/// The rules alone: 22.
 fn at_most(count: usize, most: usize) -> Result<(), Refusal> {
     if count > most {
         return refuse(22);
@@ -141,7 +141,7 @@ fn at_most(count: usize, most: usize) -> Result<(), Refusal> {
     Ok(())
 }
 
-/// Document 01 alone: 18. The Rust's products can pass 64 bits.
+/// The rules alone: 18. The Rust's products can pass 64 bits.
 fn settings_small(settings: &VotingConfig) -> Result<(), Refusal> {
     let numbers = [settings.voting_length, settings.soft_fork_epochs, settings.activation_epochs];
     if numbers.into_iter().any(|n| n > LARGEST_SETTING) {

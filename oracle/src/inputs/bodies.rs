@@ -7,28 +7,11 @@ use super::damage::damaged;
 use super::random::Random;
 use super::updates;
 use super::voting::any_table;
-use super::Asked;
-use crate::answers::bytes::{put_map, put_table};
-use crate::answers::extension::field_bytes;
+use crate::answers::field_bytes;
+use crate::bytes::{map_bytes, numbers, table_bytes};
+use crate::call::Call;
 use crate::table::{self, Map};
-
-/// A VLQ number, now and then in a longer form than the shortest.
-pub fn vlq(random: &mut Random, number: u32) -> Vec<u8> {
-    let mut bytes = Vec::new();
-    let mut left = number;
-    while left > 0x7f {
-        bytes.push(left as u8 | 0x80);
-        left >>= 7;
-    }
-    bytes.push(left as u8);
-    if random.one_in(12) {
-        let last = bytes.len() - 1;
-        bytes[last] |= 0x80;
-        bytes.resize(last + 1 + random.below(3), 0x80);
-        bytes.push(0);
-    }
-    bytes
-}
+use crate::{places, rules};
 
 fn key(random: &mut Random) -> [u8; 2] {
     let first = random.pick(&[0, 0, 0, 0, 1, 2, 255]);
@@ -51,7 +34,7 @@ pub fn body(random: &mut Random) -> Vec<u8> {
     let mut body = random.bytes(32);
     let fields: Vec<ExtensionField> = (0..random.pick(&[0, 1, 2, 3, 9, 14])).map(|_| field(random)).collect();
     let count = if random.one_in(10) { random.number() } else { fields.len() as u32 };
-    body.extend(vlq(random, count));
+    body.extend(random.vlq(count));
     body.extend(field_bytes(&fields));
     if random.one_in(10) {
         let size = random.pick(&[64, 65, 66, 128, 255]);
@@ -65,17 +48,32 @@ pub fn body(random: &mut Random) -> Vec<u8> {
     body
 }
 
-pub fn make(random: &mut Random) -> Vec<Asked> {
+/// What a body is asked: whether it is in form, its fields, parameters and update, and the field at each of these places.
+pub fn asked(body: &[u8], at: &[usize]) -> Vec<Call> {
+    let whole = ["check_body", "parse_extension_bytes", "parse_parameters_from_kv", "extract_disabling_rules_from_kv"];
+    let fields = at.iter().map(|&at| Call::new("field_at", [body.to_vec(), numbers(&[at])]));
+    whole.into_iter().map(|name| Call::new(name, [body.to_vec()])).chain(fields).collect()
+}
+
+/// Where the fields of a body stand, if the Rust reads it.
+pub fn fields_at(body: &[u8]) -> Vec<usize> {
+    rules::parse_body(body).map_or(Vec::new(), |(_, fields)| places::fields(body, &fields))
+}
+
+/// A body is asked with its fields, and one at any place; or every cut of it.
+pub fn make(random: &mut Random) -> Vec<Call> {
     let body = body(random);
     let body = damaged(random, body);
     if random.one_in(50) {
-        return vec![(0x38, body)];
+        return (0..=body.len()).map(|size| Call::new("check_body", [body[..size].to_vec()])).collect();
     }
-    [0x25, 0x26, 0x29, 0x2a, 0x2b, 0x35].into_iter().map(|call| (call, body.clone())).collect()
+    let mut at = fields_at(&body);
+    at.push(random.below(body.len() + 3));
+    asked(&body, &at)
 }
 
 /// The entries of a table, some of them changed, absent or more.
-pub fn matches(random: &mut Random) -> Vec<Asked> {
+pub fn matches(random: &mut Random) -> Vec<Call> {
     let computed = any_table(random);
     let mut found = table::to_map(&computed);
     for _ in 0..random.below(4) {
@@ -86,27 +84,24 @@ pub fn matches(random: &mut Random) -> Vec<Asked> {
             _ => drop(found.entry(id).and_modify(|value| *value = value.wrapping_add(1))),
         }
     }
-    vec![asked(&computed, &found)]
+    vec![matched(&computed, &found)]
 }
 
 /// A whole table, and several of its entries that are missing or different: 15 carries the least id of them.
-pub fn several() -> Vec<Asked> {
+pub fn several() -> Vec<Call> {
     let same: Map = table::ENTRIES.map(|entry| (entry as i8, 1_000)).into();
     let computed = table::from_map(&same);
     let all: Vec<i8> = same.keys().copied().collect();
-    let mut asks = Vec::new();
+    let mut calls = Vec::new();
     for ids in [&[1, 123][..], &[9, 121], &[122], &all] {
         let (mut less, mut other) = (same.clone(), same.clone());
         less.retain(|id, _| !ids.contains(id));
         other.extend(ids.iter().map(|&id| (id, -1)));
-        asks.extend([asked(&computed, &less), asked(&computed, &other)]);
+        calls.extend([matched(&computed, &less), matched(&computed, &other)]);
     }
-    asks
+    calls
 }
 
-fn asked(computed: &Parameters, found: &Map) -> Asked {
-    let mut input = Vec::new();
-    put_table(&mut input, computed);
-    put_map(&mut input, found);
-    (0x2c, input)
+fn matched(computed: &Parameters, found: &Map) -> Call {
+    Call::new("check_parameters_v6", [table_bytes(computed), map_bytes(found)])
 }

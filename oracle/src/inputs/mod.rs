@@ -1,6 +1,7 @@
 //! Inputs of calls, at random from a seed.
 
 pub mod bodies;
+pub mod boundaries;
 mod damage;
 pub mod random;
 pub mod records;
@@ -8,22 +9,21 @@ pub mod updates;
 pub mod voting;
 mod writers;
 
+use crate::call::Call;
 use random::Random;
-
-/// A call's number and its input.
-pub type Asked = (u8, Vec<u8>);
 
 /// A kind of inputs, how many times it is made when the two sides are compared, and what makes some of it.
 pub struct Kind {
     pub name: &'static str,
     pub times: usize,
-    pub make: fn(&mut Random) -> Vec<Asked>,
+    pub make: fn(&mut Random) -> Vec<Call>,
 }
 
-pub const KINDS: [Kind; 14] = [
+pub const KINDS: [Kind; 15] = [
     Kind { name: "tallies", times: 100_000, make: voting::tallies },
-    Kind { name: "boundaries", times: 1_000_000, make: voting::boundaries },
-    Kind { name: "boundaries with an update", times: 300_000, make: updates::boundaries },
+    Kind { name: "boundaries", times: 1_000_000, make: boundaries::plain },
+    Kind { name: "boundaries with an update", times: 300_000, make: boundaries::with_update },
+    Kind { name: "boundary over a lent list", times: 1_000_000, make: boundaries::over_list },
     Kind { name: "fork checks", times: 1_000_000, make: voting::fork_checks },
     Kind { name: "approvals", times: 300_000, make: voting::approvals },
     Kind { name: "block versions", times: 300_000, make: voting::block_versions },

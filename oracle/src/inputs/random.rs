@@ -1,42 +1,9 @@
 //! Random numbers from a seed, most of them near numbers where an answer changes.
 
 const EDGES: [u32; 36] = [
-    0,
-    2,
-    9,
-    64,
-    120,
-    122,
-    124,
-    127,
-    128,
-    255,
-    256,
-    409,
-    512,
-    513,
-    1_000,
-    1_024,
-    2_048,
-    10_000,
-    16_384,
-    25_000,
-    29_491,
-    32_767,
-    32_768,
-    32_769,
-    65_535,
-    65_536,
-    65_537,
-    417_792,
-    2_500_000,
-    1_073_741_823,
-    2_147_482_624,
-    2_147_483_647,
-    2_147_483_648,
-    4_294_966_272,
-    4_294_967_166,
-    4_294_967_295,
+    0, 2, 9, 64, 120, 122, 124, 127, 128, 255, 256, 409, 512, 513, 1_000, 1_024, 2_048, 10_000, 16_384, 25_000, 29_491, 32_767,
+    32_768, 32_769, 65_535, 65_536, 65_537, 417_792, 2_500_000, 0x3fffffff, 0x7ffffc00, 0x7fffffff, 0x80000000, 0xfffffc00,
+    0xffffff7e, 0xffffffff,
 ];
 
 pub struct Random(u64);
@@ -87,5 +54,23 @@ impl Random {
         }
         let edge = self.pick(&EDGES);
         self.near(edge)
+    }
+
+    /// A VLQ number, now and then in a longer form than the shortest.
+    pub fn vlq(&mut self, number: u32) -> Vec<u8> {
+        let mut bytes = Vec::new();
+        let mut left = number;
+        while left > 0x7f {
+            bytes.push(left as u8 | 0x80);
+            left >>= 7;
+        }
+        bytes.push(left as u8);
+        if self.one_in(12) {
+            let last = bytes.len() - 1;
+            bytes[last] |= 0x80;
+            bytes.resize(last + 1 + self.below(3), 0x80);
+            bytes.push(0);
+        }
+        bytes
     }
 }

@@ -1,22 +1,20 @@
 //! Records on states, streams of them, openings and lines.
 
-use chain::voting::ExtensionField;
 use chain::Network;
 use ergo_lib::chain::parameters::{Parameter, Parameters};
 
+use super::bodies;
 use super::damage::damage;
 use super::random::Random;
+use super::updates;
 use super::voting::{any_table, near_round, tally, vote, votes};
-use super::writers::with_cells;
-use super::{bodies, updates, Asked};
-use crate::answers::archive::{first_votes, state_bytes};
-use crate::answers::bytes::{put_table, put_u32, put_value, IN_ORDER};
+use crate::bytes::table_bytes;
+use crate::call::Call;
 use crate::record::HEADERS;
 use crate::replay::State;
 use crate::rules::{self, Votes};
-use crate::streams::build::{headers as epoch_votes, with_header, Parts, Stream, FORK, QUIET, UPDATE};
-use crate::streams::{voted_enough, voted_too_few};
-use crate::table;
+use crate::streams::accepted::{voted_enough, voted_too_few};
+use crate::streams::build::{fields, headers as epoch_votes, with_header, Parts, Stream, FORK, QUIET, UPDATE};
 
 /// Legal votes: none, one that is for the fork or not, or two and the fork.
 fn legal(random: &mut Random) -> Votes {
@@ -43,10 +41,6 @@ pub fn epoch(random: &mut Random) -> Vec<Votes> {
         epoch = with_header(epoch, random.below(HEADERS), votes(random));
     }
     epoch
-}
-
-fn fields(table: &Parameters) -> Vec<ExtensionField> {
-    rules::pack_parameters(&table::to_map(table))
 }
 
 /// A record on a state whose body carries the table that is computed, if one is.
@@ -109,22 +103,18 @@ fn with_ordinary_defaults(table: Parameters) -> Parameters {
 }
 
 /// Some epochs one after another, each record whole and damaged.
-pub fn replays(random: &mut Random) -> Vec<Asked> {
-    let mut state = if random.one_in(3) { crate::replay::open_mainnet() } else { state(random) };
-    let mut bytes = state_bytes(&state, IN_ORDER);
-    let mut all = Vec::new();
+pub fn replays(random: &mut Random) -> Vec<Call> {
+    let mut stream = if random.one_in(3) { Stream::new() } else { Stream::from_state(state(random)) };
+    let mut calls = Vec::new();
     for _ in 0..8 {
-        let record = record(random, &state);
-        all.push((0x3d, [&bytes[..], &record].concat()));
+        let record = record(random, stream.state());
+        calls.push(stream.asked(&record));
         if random.one_in(3) {
-            all.push((0x3d, [&bytes[..], &damage(random, record.clone())].concat()));
+            calls.push(stream.asked(&damage(random, record.clone())));
         }
-        if let Ok(next) = state.replay(&record) {
-            bytes = state_bytes(&next, first_votes(&record));
-            state = next;
-        }
+        stream.offer(&record).ok();
     }
-    all
+    calls
 }
 
 /// An input of records from mainnet's beginning, with now and then a last one that is damaged, cut or followed by more bytes. Some
@@ -137,9 +127,7 @@ pub fn stream(random: &mut Random) -> Vec<u8> {
     };
     for _ in 0..random.pick(&[0, 1, 2, 5, 40, 75]) {
         let record = record(random, stream.state());
-        if stream.state().replay(&record).is_ok() {
-            stream.accept(&record);
-        } else if random.one_in(10) {
+        if stream.offer(&record).is_err() && random.one_in(10) {
             stream.bytes.extend(record);
             break;
         }
@@ -154,41 +142,27 @@ pub fn stream(random: &mut Random) -> Vec<u8> {
     bytes
 }
 
-pub fn headers(random: &mut Random) -> Vec<Asked> {
+pub fn headers(random: &mut Random) -> Vec<Call> {
     let count = random.pick(&[0, 1, 2, 5, 30]);
     let spoiled = random.one_in(2);
-    let mut input: Vec<u8> = (0..count).flat_map(|_| legal(random)).collect();
-    if spoiled && !input.is_empty() {
-        let at = random.below(input.len());
-        input[at] = vote(random);
+    let mut votes: Vec<u8> = (0..count).flat_map(|_| legal(random)).collect();
+    if spoiled && !votes.is_empty() {
+        let at = random.below(votes.len());
+        votes[at] = vote(random);
     }
-    vec![(0x3b, input)]
+    vec![Call::new("check_headers", [votes])]
 }
 
-pub fn openings(random: &mut Random) -> Vec<Asked> {
+pub fn openings(random: &mut Random) -> Vec<Call> {
     let height = if random.one_in(2) { random.number() } else { random.number() / 1_024 * 1_024 };
-    let table = any_table(random);
-    let mut input = height.to_be_bytes().to_vec();
-    put_table(&mut input, &table);
-    vec![(0x3c, input)]
+    vec![Call::new("open", [height.to_be_bytes().into(), table_bytes(&any_table(random))])]
 }
 
-pub fn lines(random: &mut Random) -> Vec<Asked> {
-    let call = random.pick(&[0x3e, 0x3f, 0x3f, 0x40]);
-    let mut input = Vec::new();
-    match call {
-        0x3f => {
-            put_u32(&mut input, random.number());
-            for _ in 0..3 {
-                let value = if random.one_in(4) { None } else { Some(random.number() as i32) };
-                put_value(&mut input, value);
-            }
-        }
-        0x40 => {
-            put_u32(&mut input, random.number());
-            input.push(random.byte());
-        }
-        _ => {}
-    }
-    vec![(call, with_cells(random, call, input))]
+pub fn lines(random: &mut Random) -> Vec<Call> {
+    let number = random.number().to_be_bytes().into();
+    vec![match random.below(4) {
+        0 => Call::new("write_head", []),
+        1 => Call::new("write_end", [number, vec![random.byte()]]),
+        _ => Call::new("write_epoch", [number, table_bytes(&any_table(random))]),
+    }]
 }

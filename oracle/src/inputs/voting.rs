@@ -1,12 +1,12 @@
-//! Inputs of the calls of `voting`.
+//! Votes, settings, tables and rounds, and the calls on them.
 
 use chain::voting::VotingConfig;
 use chain::Network;
 use ergo_lib::chain::parameters::{Parameter, Parameters};
 
 use super::random::Random;
-use super::Asked;
-use crate::answers::bytes::{put_settings, put_table, put_tally, put_u32, IN_ORDER};
+use crate::bytes::{settings_bytes, table_bytes};
+use crate::call::Call;
 use crate::rules::{self, Tally, Votes};
 use crate::table;
 
@@ -23,21 +23,19 @@ pub fn vote(random: &mut Random) -> u8 {
 }
 
 pub fn votes(random: &mut Random) -> Votes {
-    let slot = |random: &mut Random| if random.one_in(2) { 0 } else { vote(random) };
-    [slot(random), slot(random), slot(random)]
+    [0; 3].map(|_| if random.one_in(2) { 0 } else { vote(random) })
 }
 
 pub fn settings(random: &mut Random) -> VotingConfig {
-    let numbers: [u32; 3] = match random.below(8) {
+    let [voting_length, soft_fork_epochs, activation_epochs] = match random.below(8) {
         0 | 1 => [1_024, 32, 32],
         2 => [128, 32, 32],
         3 => [0; 3].map(|_| random.below(5) as u32),
         4 => [0; 3].map(|_| random.pick(&[0, 1, 2, 65_534, 65_535])),
         5 => [0; 3].map(|_| random.number() % 65_536),
-        6 => [random.below(100) as u32, random.below(100) as u32, random.below(100) as u32],
+        6 => [0; 3].map(|_| random.below(100) as u32),
         _ => [0; 3].map(|_| random.number()),
     };
-    let [voting_length, soft_fork_epochs, activation_epochs] = numbers;
     VotingConfig { voting_length, soft_fork_epochs, activation_epochs, version2_activation_height: random.number() }
 }
 
@@ -56,12 +54,11 @@ fn value(random: &mut Random, entry: Parameter) -> i32 {
 
 /// Each entry is absent now and then.
 pub fn any_table(random: &mut Random) -> Parameters {
-    let mut table = Parameters::default();
     let absent = random.pick(&[2, 4, 50]);
+    let mut table = Parameters::default();
     for entry in table::ENTRIES {
         if !random.one_in(absent) {
-            let value = value(random, entry);
-            table.parameters_table.insert(entry, value);
+            table.parameters_table.insert(entry, value(random, entry));
         }
     }
     table
@@ -105,79 +102,38 @@ pub fn tally(random: &mut Random, length: u32) -> Tally {
     tally
 }
 
-/// Settings, height and table, near a round of a tally made for the settings' length. Now and then the height is that of version 2.
-pub fn at_boundary(random: &mut Random, make: fn(&mut Random, u32) -> Tally) -> (Vec<u8>, Tally) {
-    let mut settings = settings(random);
-    let tally = make(random, settings.voting_length);
-    let (table, height) = near_round(random, &settings, &tally);
-    if random.one_in(4) {
-        settings.version2_activation_height = height;
-    }
-    let mut input = Vec::new();
-    put_settings(&mut input, &settings);
-    put_u32(&mut input, height);
-    put_table(&mut input, &table);
-    (input, tally)
-}
-
-/// Settings, height, table, tally and the flag of the vote 120.
-pub fn boundary_input(random: &mut Random) -> Vec<u8> {
-    let (mut input, tally) = at_boundary(random, tally);
-    put_tally(&mut input, &tally, IN_ORDER);
-    input.push(random.one_in(2).into());
-    input
-}
-
-pub fn boundaries(random: &mut Random) -> Vec<Asked> {
-    let mut input = boundary_input(random);
-    input.push(random.one_in(2).into());
-    vec![(0x16, input)]
-}
-
-pub fn tallies(random: &mut Random) -> Vec<Asked> {
+pub fn tallies(random: &mut Random) -> Vec<Call> {
     let (length, boundary) = (random.number(), random.number());
     let first = if random.one_in(6) { random.number() } else { boundary.wrapping_sub(length) };
-    let mut input = Vec::new();
-    [first, boundary, length].into_iter().for_each(|number| put_u32(&mut input, number));
     let seed = votes(random);
     let count = random.pick(&[0, 1, 2, 3, 8, 40, 300]);
-    for i in 0..count {
-        input.extend(if i == 0 || random.one_in(3) { seed } else { votes(random) });
-    }
-    vec![(0x13, input)]
+    let window = (0..count).flat_map(|i| if i == 0 || random.one_in(3) { seed } else { votes(random) }).collect();
+    let [first, boundary, length] = [first, boundary, length].map(|number| number.to_be_bytes().into());
+    vec![Call::new("tally_votes_seeded", [first, window, boundary, length])]
 }
 
-pub fn fork_checks(random: &mut Random) -> Vec<Asked> {
+pub fn fork_checks(random: &mut Random) -> Vec<Call> {
     let settings = settings(random);
     let (table, height) = near_round(random, &settings, &[]);
     let mut votes = votes(random);
     if !random.one_in(4) {
         votes[random.below(3)] = 120;
     }
-    let mut input = Vec::new();
-    put_settings(&mut input, &settings);
-    put_u32(&mut input, height);
-    input.extend(votes);
-    put_table(&mut input, &table);
-    vec![(0x15, input)]
+    let arguments = [settings_bytes(&settings), height.to_be_bytes().into(), votes.into(), table_bytes(&table)];
+    vec![Call::new("check_fork_vote", arguments)]
 }
 
-pub fn approvals(random: &mut Random) -> Vec<Asked> {
+pub fn approvals(random: &mut Random) -> Vec<Call> {
     let settings = settings(random);
-    let mut input = Vec::new();
-    put_settings(&mut input, &settings);
-    let call = random.pick(&[0x1d, 0x1e]);
-    let edge = if call == 0x1d { threshold(&settings) } else { settings.voting_length / 2 };
+    let edges = [("soft_fork_approved", threshold(&settings)), ("change_approved", settings.voting_length / 2)];
+    let (name, edge) = random.pick(&edges);
     let votes = if random.one_in(3) { random.number() } else { random.near(edge) };
-    put_u32(&mut input, votes);
-    vec![(call, input)]
+    vec![Call::new(name, [settings_bytes(&settings), votes.to_be_bytes().into()])]
 }
 
-pub fn block_versions(random: &mut Random) -> Vec<Asked> {
+pub fn block_versions(random: &mut Random) -> Vec<Call> {
     let table = any_table(random);
-    let mut input = Vec::new();
-    put_table(&mut input, &table);
     let version = table::get(&table, Parameter::BlockVersion).unwrap_or(0) as u8;
-    input.push(if random.one_in(2) { random.byte() } else { version });
-    vec![(0x19, input)]
+    let version = if random.one_in(2) { random.byte() } else { version };
+    vec![Call::new("check_block_version", [table_bytes(&table), vec![version]])]
 }

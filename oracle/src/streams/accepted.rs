@@ -1,7 +1,7 @@
 //! Streams whose records are all accepted.
 
 use super::build::{headers, with_header, Parts, Stream, FORK, QUIET, UPDATE};
-use super::Case;
+use super::case::Case;
 
 /// Votes in the last epoch of a round that bring its total to 29,491.
 const LAST_TOO_FEW: usize = 819;

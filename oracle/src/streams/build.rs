@@ -3,7 +3,11 @@
 use chain::voting::ExtensionField;
 use ergo_lib::chain::parameters::Parameters;
 
+use crate::answers::{first_votes, state_bytes};
+use crate::bytes::IN_ORDER;
+use crate::call::Call;
 use crate::record::{write_field, HEADERS};
+use crate::refusal::Refusal;
 use crate::replay::{open_mainnet, State};
 use crate::rules::{self, Tally, Votes};
 use crate::table;
@@ -88,12 +92,13 @@ impl Parts {
     }
 }
 
-/// The bytes so far, and the state after the accepted records in them.
+/// The bytes so far, the state after the accepted records in them, and the votes that seeded its tally.
 #[derive(Clone)]
 pub struct Stream {
     pub bytes: Vec<u8>,
     pub accepted: usize,
     state: State,
+    seed: Votes,
 }
 
 impl Default for Stream {
@@ -108,12 +113,17 @@ impl Stream {
     }
 
     pub fn from_state(state: State) -> Stream {
-        Stream { bytes: Vec::new(), accepted: 0, state }
+        Stream { bytes: Vec::new(), accepted: 0, state, seed: IN_ORDER }
     }
 
     /// The state after the accepted records.
     pub fn state(&self) -> &State {
         &self.state
+    }
+
+    /// The replay of a record on that state.
+    pub fn asked(&self, record: &[u8]) -> Call {
+        Call::new("replay", [state_bytes(&self.state, self.seed), record.to_vec()])
     }
 
     /// A record that is accepted next with these votes, if one is.
@@ -142,9 +152,16 @@ impl Stream {
 
     /// Adds a record that is accepted.
     pub fn accept(&mut self, record: &[u8]) {
-        self.state = self.state.replay(record).expect("a record that is accepted");
+        self.offer(record).expect("a record that is accepted");
+    }
+
+    /// Adds a record if it is accepted.
+    pub fn offer(&mut self, record: &[u8]) -> Result<(), Refusal> {
+        self.state = self.state.replay(record)?;
+        self.seed = first_votes(record);
         self.accepted += 1;
         self.bytes.extend(record);
+        Ok(())
     }
 }
 
@@ -153,6 +170,7 @@ fn parts(state: &State, votes: Vec<Votes>) -> Parts {
     Parts { height: state.next, fields: fields(&computed), votes }
 }
 
-fn fields(table: &Parameters) -> Vec<ExtensionField> {
+/// The fields that carry a table.
+pub fn fields(table: &Parameters) -> Vec<ExtensionField> {
     rules::pack_parameters(&table::to_map(table))
 }

@@ -1,57 +1,34 @@
 //! Streams of records for program `replay`, with the lines that it prints for them.
 
-mod accepted;
+pub mod accepted;
 pub mod build;
-mod refused;
+mod case;
+pub mod refused;
 
 use std::fs;
 use std::io;
 use std::path::Path;
 
-use crate::replay::replay_stream;
+use case::Case;
 
-pub use accepted::{voted_enough, voted_too_few};
-
-const LARGEST_FILE: usize = 300_000;
-const LARGEST_SUM: usize = 2_000_000;
-
-/// A stream, and what its last line must say.
-pub struct Case {
-    pub name: &'static str,
-    pub accepted: usize,
-    pub refusal: u8,
-    pub bytes: Vec<u8>,
-}
-
-impl Case {
-    /// What is printed. A last line other than the one that the case was made for ends the run.
-    pub fn lines(&self) -> Vec<u8> {
-        let lines = replay_stream(&self.bytes);
-        let end = format!("end {} {}\n", self.accepted, self.refusal);
-        let printed = String::from_utf8_lossy(&lines);
-        assert!(printed.ends_with(&end), "{}: not {end}{printed}", self.name);
-        lines
-    }
-}
+const LARGEST_SUM: usize = 1_100_000;
 
 pub fn cases() -> Vec<Case> {
-    accepted::cases().into_iter().chain(refused::cases()).collect()
+    accepted::cases().into_iter().chain(refused::streams().iter().map(|refused| refused.case())).collect()
 }
 
-/// Writes NAME.records and NAME.lines for each case, and answers a line for each and one for all.
+/// Writes NAME.records and NAME.lines for each case and for wrong lines, and answers a line for each and one for all.
 pub fn write(folder: &Path) -> io::Result<Vec<String>> {
     fs::create_dir_all(folder)?;
-    let mut report = Vec::new();
-    let mut sum = 0;
-    for case in cases() {
-        let lines = case.lines();
-        assert!(case.bytes.len() < LARGEST_FILE, "{} is too large", case.name);
-        fs::write(folder.join(format!("{}.records", case.name)), &case.bytes)?;
-        fs::write(folder.join(format!("{}.lines", case.name)), &lines)?;
-        report.push(format!("{}: {} bytes, end {} {}", case.name, case.bytes.len(), case.accepted, case.refusal));
-        sum += case.bytes.len() + lines.len();
+    let (mut report, mut sum) = (Vec::new(), 0);
+    let right = cases().into_iter().map(|case| (case.name, case.lines(), case.bytes));
+    for (name, lines, records) in right.chain(case::wrong()) {
+        fs::write(folder.join(format!("{name}.records")), &records)?;
+        fs::write(folder.join(format!("{name}.lines")), &lines)?;
+        report.push(format!("{name}: {} bytes, {}", records.len(), lines.lines().last().unwrap_or("no line")));
+        sum += records.len() + lines.len();
     }
-    assert!(sum < LARGEST_SUM, "{sum} bytes in all");
+    assert!(sum <= LARGEST_SUM, "{sum} bytes in all");
     report.push(format!("{} streams, {sum} bytes", report.len()));
     Ok(report)
 }

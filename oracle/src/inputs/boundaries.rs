@@ -1,0 +1,182 @@
+//! Boundaries: at random near rounds, and chosen ones that tell wrong orders and steps apart.
+
+use chain::voting::{self, VotingConfig};
+use ergo_lib::chain::parameters::Parameters;
+
+use super::random::Random;
+use super::updates::{any, proposed};
+use super::voting::{near_round, settings, tally, vote};
+use crate::bytes::{question_bytes, tally_bytes};
+use crate::call::Call;
+use crate::replay::open_mainnet;
+use crate::rules::{self, Tally};
+use crate::table::{from_map, to_map, Map};
+
+/// What a boundary is asked beside its tally and update.
+struct Question {
+    settings: VotingConfig,
+    height: u32,
+    table: Parameters,
+    fork_vote: bool,
+}
+
+impl Question {
+    fn asked(&self, tally: &[(i8, u32)], update: Vec<u8>) -> Call {
+        let question = question_bytes(&self.settings, self.height, &self.table, self.fork_vote);
+        Call::new("compute_boundary_parameters", [tally_bytes(tally), update, question])
+    }
+}
+
+/// Near a round of a tally made for the settings' length. Now and then the height is that of version 2.
+fn at_boundary(random: &mut Random, make: fn(&mut Random, u32) -> Tally) -> (Question, Tally) {
+    let mut settings = settings(random);
+    let tally = make(random, settings.voting_length);
+    let (table, height) = near_round(random, &settings, &tally);
+    if random.one_in(4) {
+        settings.version2_activation_height = height;
+    }
+    (Question { settings, height, table, fork_vote: random.one_in(2) }, tally)
+}
+
+/// The update disables 409, or there is none.
+pub fn plain(random: &mut Random) -> Vec<Call> {
+    let (question, tally) = at_boundary(random, tally);
+    vec![question.asked(&tally, if random.one_in(2) { disabling(&[409]) } else { Vec::new() })]
+}
+
+pub fn with_update(random: &mut Random) -> Vec<Call> {
+    let (question, tally) = at_boundary(random, tally);
+    vec![question.asked(&tally, any(random))]
+}
+
+pub fn over_list(random: &mut Random) -> Vec<Call> {
+    let (question, tally) = at_boundary(random, entries);
+    vec![question.asked(&tally, proposed(random))]
+}
+
+fn disabling(rules: &[u16]) -> Vec<u8> {
+    voting::encode_disabled_rules(rules)
+}
+
+/// Entries of a list of up to eight: ids repeated, negated, several 120, now and then 0 or -128; counts near half the length.
+fn entries(random: &mut Random, length: u32) -> Tally {
+    let mut tally = Tally::new();
+    for _ in 0..random.below(9) {
+        let id = match (random.below(8), tally.len()) {
+            (0, 1..) => tally[random.below(tally.len())].0,
+            (1, 1..) => tally[random.below(tally.len())].0.wrapping_neg(),
+            (2, _) => 120,
+            (3, _) => random.pick(&[0, 0, -128, -128, -120, 9, -9, 127]),
+            _ => vote(random) as i8,
+        };
+        let count = match random.below(8) {
+            0 | 1 => random.number(),
+            2 => random.pick(&[0, 1, u32::MAX - 1, u32::MAX]),
+            _ => random.near(length / 2),
+        };
+        tally.push((id, count));
+    }
+    tally
+}
+
+/// Entries of which none repeats or contradicts another: up to some 25, most often for parameters and the fork alone.
+fn consistent_entries(random: &mut Random, length: u32) -> Tally {
+    let mut tally = Tally::new();
+    let unknown = random.one_in(4);
+    for _ in 0..random.pick(&[1, 2, 2, 3, 12]) {
+        for (id, count) in entries(random, length) {
+            let known = id == 120 || (1..=9).contains(&id.unsigned_abs());
+            if (known || unknown) && tally.iter().all(|&(other, _)| id != other && id != other.wrapping_neg()) {
+                tally.push((id, count));
+            }
+        }
+    }
+    tally
+}
+
+/// Two boundaries that differ in the order of such entries.
+pub fn in_two_orders(random: &mut Random) -> [Call; 2] {
+    let (question, tally) = at_boundary(random, consistent_entries);
+    let update = proposed(random);
+    let mut other = tally.clone();
+    (1..other.len()).for_each(|i| other.swap(i, random.below(i + 1)));
+    [tally, other].map(|tally| question.asked(&tally, update.clone()))
+}
+
+/// Mainnet's first height of a round.
+const START: u32 = 1_024;
+const EPOCH: u32 = 1_024;
+
+/// More votes than half.
+const ENOUGH: u32 = 513;
+
+/// A boundary of mainnet so many epochs after its round opened, with 29,492 votes and these entries.
+fn after(epochs: u32, entries: &[(i8, i32)]) -> Question {
+    let mut map: Map = to_map(&open_mainnet().table);
+    map.extend([(121, 29_492), (122, START as i32)]);
+    map.extend(entries.iter().copied());
+    Question { settings: rules::mainnet(), height: START + EPOCH * epochs, table: from_map(&map), fork_vote: false }
+}
+
+/// Mainnet where the round raises the version, so that the update is activated.
+pub fn rising(tally: &[(i8, u32)], update: Vec<u8>) -> Call {
+    after(64, &[]).asked(tally, update)
+}
+
+/// Chosen boundaries of mainnet: each of them is answered otherwise where one rule is another.
+pub fn chosen() -> Vec<Call> {
+    [rounds(), versions(), subblocks(), steps()].concat()
+}
+
+/// All that happens to a round, approved or not, with and without a vote for the next one.
+fn rounds() -> Vec<Call> {
+    let mut calls = Vec::new();
+    for epochs in [0, 1, 32, 33, 34, 64, 65, 66] {
+        for (total, fork_vote) in [(29_491, false), (29_491, true), (29_492, false), (29_492, true)] {
+            calls.push(Question { fork_vote, ..after(epochs, &[(121, total)]) }.asked(&[], Vec::new()));
+        }
+    }
+    calls
+}
+
+/// Versions that rise, some of them at the version-2 height: 1 rises to 2 and 0 to 1, which is then forced. The greatest one wraps.
+fn versions() -> Vec<Call> {
+    let mut calls = Vec::new();
+    for version in [-1, 0, 1, 2, i32::MAX] {
+        for epochs in [63, 64] {
+            let plain = after(epochs, &[(123, version)]);
+            let mut forced = after(epochs, &[(123, version)]);
+            forced.settings.version2_activation_height = forced.height;
+            calls.extend([plain.asked(&[], Vec::new()), forced.asked(&[], Vec::new())]);
+        }
+    }
+    calls
+}
+
+/// Entry 9 at version 4: 409 counts only in an update that is activated, and a vote for an absent 9 comes before it is put in.
+fn subblocks() -> Vec<Call> {
+    let mut calls = Vec::new();
+    for (epochs, version) in [(63, 4), (64, 3), (64, 4), (63, 3)] {
+        for rules in [&[][..], &[409], &[215, 409], &[215]] {
+            calls.push(after(epochs, &[(123, version)]).asked(&[], disabling(rules)));
+        }
+        for vote in [9, -9] {
+            calls.push(after(epochs, &[(123, version)]).asked(&[(vote, ENOUGH)], Vec::new()));
+            calls.push(after(epochs, &[(123, version), (9, 30)]).asked(&[(vote, ENOUGH)], Vec::new()));
+        }
+    }
+    calls
+}
+
+/// Each parameter at and beside its least and its greatest value, and between them, moved up and down.
+fn steps() -> Vec<Call> {
+    let mut calls = Vec::new();
+    for id in 1..=9 {
+        let [least, greatest] = [voting::parameter_min(id), voting::parameter_max(id)].map(|limit| limit.expect("a limit"));
+        let moved = |value, vote, count| after(40, &[(id, value)]).asked(&[(vote, count)], Vec::new());
+        calls.extend([least, least + 1, greatest].map(|value| moved(value, -id, ENOUGH)));
+        calls.extend([least, greatest - 1, greatest].map(|value| moved(value, id, ENOUGH)));
+        calls.extend([moved(199, id, ENOUGH), moved(300, id, ENOUGH), moved(300, -id, ENOUGH), moved(300, id, ENOUGH - 1)]);
+    }
+    calls
+}
