@@ -1,84 +1,112 @@
-//! The proved code's answers in the bytes of docs/VECTORS.md, by the number of a call: what `ergo_voting` hands a user, put in
-//! the place that the call has for it.
-//!
-//! A refused call hands nothing out but its refusal. What a row has beside that is put here: the old table, the state that was
-//! handed in (of an opening, one that expects no height), places and counts of 0.
+//! The library, asked by a call's name through its C interface.
 
-mod archive;
-mod extension;
-mod voting;
+use ergo_voting::ffi;
+use ergo_voting::Entry;
+use oracle::bytes::Input;
+use oracle::call::{Answer, Call};
+use oracle::text;
 
-use ergo_voting::{Refusal, Section, Settings, Table};
+const OUTPUT_SHORT: u8 = 21;
 
-pub fn answer(call: u8, input: &[u8]) -> Vec<u8> {
-    let input = Input(input);
-    match call {
-        0x11..=0x24 => voting::answer(call, input),
-        0x25..=0x39 | 0x43 => extension::answer(call, input),
-        _ => archive::answer(call, input),
+/// How many cells a refused call is lent beside none.
+const MANY: usize = 100;
+
+/// What cells hold before a call.
+const FILL: u8 = 0xee;
+
+/// What a function answers: a refusal's number or 0; that and an id; how many cells it wrote, or minus the number; or a flag.
+#[derive(Debug, PartialEq, Eq)]
+enum Reply {
+    Number(u8),
+    WithId(u16),
+    Size(i64),
+    Flag(u8),
+}
+
+use Reply::{Flag, Number, Size, WithId};
+
+fn ask(call: &Call, out: &mut [u8]) -> Reply {
+    let a = |i: usize| &call.arguments[i][..];
+    let byte = |i| Input(a(i)).byte();
+    let number = |i| Input(a(i)).u32();
+    match call.name {
+        "check_header_votes" => Number(ffi::ergo_check_header_votes(a(0))),
+        "check_headers" => Number(ffi::ergo_check_headers(a(0))),
+        "tally_votes_seeded" => Number(ffi::ergo_tally_votes_seeded(number(0), a(1), number(2), number(3), out)),
+        "check_fork_vote" => Number(ffi::ergo_check_fork_vote(a(0), number(1), a(2), a(3))),
+        "compute_boundary_parameters" => {
+            let tally: Vec<Entry> = Input(a(0)).tally().into_iter().map(|(id, count)| Entry { id, count }).collect();
+            Number(ffi::ergo_compute_boundary_parameters(&tally, a(1), a(2), out))
+        }
+        "check_parameters_v6" => WithId(ffi::ergo_check_parameters_v6(a(0), a(1))),
+        "check_block_version" => Number(ffi::ergo_check_block_version(a(0), byte(1))),
+        "default_parameters" => Number(ffi::ergo_default_parameters(byte(0), out)),
+        "voting_config" => Number(ffi::ergo_voting_config(byte(0), out)),
+        "soft_fork_approved" => Flag(ffi::ergo_soft_fork_approved(a(0), number(1) as i32)),
+        "change_approved" => Flag(ffi::ergo_change_approved(a(0), number(1))),
+        "parameter_min" => Number(ffi::ergo_parameter_min(byte(0) as i8, out)),
+        "parameter_max" => Number(ffi::ergo_parameter_max(byte(0) as i8, out)),
+        "parameter_step" => Number(ffi::ergo_parameter_step(byte(0) as i8, out)),
+        "check_body" => Number(ffi::ergo_check_body(a(0))),
+        "parse_extension_bytes" => Number(ffi::ergo_parse_extension_bytes(a(0), out)),
+        "field_at" => Number(ffi::ergo_field_at(a(0), number(1) as usize, out)),
+        "parse_parameters_from_kv" => Size(ffi::ergo_parse_parameters_from_kv(a(0), out)),
+        "extract_disabling_rules_from_kv" => Size(ffi::ergo_extract_disabling_rules_from_kv(a(0), out)),
+        "parse_validation_settings_update" => Number(ffi::ergo_parse_validation_settings_update(a(0), out)),
+        "rule_at" => Number(ffi::ergo_rule_at(a(0), number(1) as usize, out)),
+        "status_at" => Number(ffi::ergo_status_at(a(0), number(1) as usize, out)),
+        "rule_may_not_be_disabled" => Flag(ffi::ergo_rule_may_not_be_disabled(number(0) as i32)),
+        "pack_extension_bytes" => Size(ffi::ergo_pack_extension_bytes(a(0), a(1), out)),
+        "pack_parameters_to_kv" => Size(ffi::ergo_pack_parameters_to_kv(a(0), out)),
+        "encode_validation_settings_update" => {
+            let [rules, ids, sizes] = [a(0), a(1), a(3)].map(Input);
+            let (rules, ids) = (rules.items(u16::from_be_bytes), ids.items(i16::from_be_bytes));
+            let sizes = sizes.items(u32::from_be_bytes);
+            Size(ffi::ergo_encode_validation_settings_update(&rules, &ids, a(2), &sizes, a(4), out))
+        }
+        "encode_disabled_rules" => Size(ffi::ergo_encode_disabled_rules(&Input(a(0)).items(u16::from_be_bytes), out)),
+        "open" => Number(ffi::ergo_open(number(0), a(1), out)),
+        "replay" => WithId(ffi::ergo_replay(out, a(1))),
+        "write_head" => Size(ffi::ergo_write_head(out)),
+        "write_epoch" => Size(ffi::ergo_write_epoch(number(0), a(1), out)),
+        "write_end" => Size(ffi::ergo_write_end(number(0), byte(1), out)),
+        other => panic!("no call {other}"),
     }
 }
 
-/// What is left of an input. Inputs are as long as their calls take.
-pub struct Input<'a>(&'a [u8]);
-
-impl<'a> Input<'a> {
-    fn bytes(&mut self, count: usize) -> &'a [u8] {
-        let (taken, rest) = self.0.split_at(count);
-        self.0 = rest;
-        taken
-    }
-
-    fn array<const N: usize>(&mut self) -> [u8; N] {
-        self.bytes(N).try_into().expect("as many bytes as were taken")
-    }
-
-    fn byte(&mut self) -> u8 {
-        self.array::<1>()[0]
-    }
-
-    fn flag(&mut self) -> bool {
-        self.byte() != 0
-    }
-
-    fn u16(&mut self) -> u16 {
-        u16::from_be_bytes(self.array())
-    }
-
-    fn u32(&mut self) -> u32 {
-        u32::from_be_bytes(self.array())
-    }
-
-    fn count(&mut self) -> usize {
-        self.u32() as usize
-    }
-
-    fn settings(&mut self) -> Settings {
-        Settings::from_bytes(&self.array())
-    }
-
-    fn table(&mut self) -> Table {
-        Table::from_bytes(&self.array())
-    }
-
-    fn list<T>(&mut self, count: usize, item: impl Fn(&mut Input<'a>) -> T) -> Vec<T> {
-        (0..count).map(|_| item(self)).collect()
-    }
+/// What the library answers otherwise than is expected, or leaves otherwise in the cells that are lent to it. An accepted call is lent
+/// as many cells as it writes, three more, and one less; a refused one none, and many. A replay has its state in its cells.
+pub fn differs(call: &Call, expected: &Answer) -> Option<String> {
+    let state: &[u8] = if call.name == "replay" { &call.arguments[0] } else { &[] };
+    let size = expected.bytes.len();
+    let lengths = match expected.number {
+        _ if !state.is_empty() => [state.len(), state.len() + 3].to_vec(),
+        0 if size == 0 => vec![0, 3],
+        0 => vec![size, size + 3, size - 1],
+        _ => vec![0, MANY],
+    };
+    lengths.into_iter().find_map(|length| {
+        let mut cells = state.to_vec();
+        cells.resize(length, FILL);
+        differs_in(call, expected, cells)
+    })
 }
 
-/// A refusal's number, or 0.
-fn number<T>(result: &Result<T, Refusal>) -> u8 {
-    result.as_ref().err().map_or(0, |refusal| refusal.number())
-}
-
-fn section_bytes(section: Section) -> Vec<u8> {
-    [section.count, section.begin as u32, section.end as u32].into_iter().flat_map(u32::to_be_bytes).collect()
-}
-
-/// What a writer leaves in a buffer with these cells.
-fn written(cells: &[u8], write: impl FnOnce(&mut [u8]) -> Result<usize, Refusal>) -> Vec<u8> {
-    let mut after = cells.to_vec();
-    let result = write(&mut after);
-    let size = *result.as_ref().unwrap_or(&0) as u32;
-    [&[number(&result)], &size.to_be_bytes()[..], &after].concat()
+fn differs_in(call: &Call, expected: &Answer, before: Vec<u8>) -> Option<String> {
+    let mut cells = before.clone();
+    let reply = ask(call, &mut cells);
+    let written: &[u8] = if matches!(reply, Flag(_)) || expected.number != 0 { &[] } else { &expected.bytes };
+    let short = written.len() > before.len();
+    let written = if short { &[] } else { written };
+    let number = if short { OUTPUT_SHORT } else { expected.number };
+    let id = if expected.number == 0 { 0 } else { expected.bytes.first().copied().unwrap_or(0) };
+    let same = match reply {
+        Number(given) => given == number,
+        WithId(given) => given == u16::from_le_bytes([number, id]),
+        Size(given) if number == 0 => given == written.len() as i64,
+        Size(given) => given == -i64::from(number),
+        Flag(given) => number == 0 && expected.bytes == [given],
+    };
+    let same = same && cells[..written.len()] == *written && cells[written.len()..] == before[written.len()..];
+    (!same).then(|| format!("{reply:?}, and of {} cells it leaves {}", cells.len(), text::hex(&cells)))
 }

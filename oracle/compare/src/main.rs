@@ -1,6 +1,6 @@
 //! `compare [SEED]`: feeds the Rust and the static library the same inputs, and compares the answers byte by byte. It prints a
 //! line for each kind of inputs, and fails if an answer differs or a kind had no input. What the Rust has no function for is
-//! written anew beside its own (`windows`).
+//! written anew beside its own (`windows`, `steps`).
 
 mod door;
 mod exhaustive;
@@ -14,43 +14,46 @@ mod windows;
 use std::process::ExitCode;
 
 use oracle::inputs::random::Random;
-use oracle::inputs::{updates, Kind, KINDS};
+use oracle::inputs::KINDS;
 use report::Report;
 
-/// Beside the kinds that rows are taken from.
-const LENT: Kind = Kind { name: "boundary over a lent list", times: 1_000_000, make: updates::lent_boundaries };
+type Run = fn(&mut Report, &mut Random);
+
+/// The kinds that rows are not taken from.
+const OTHERS: [(&str, Run); 11] = [
+    ("header votes, all", exhaustive::all_headers),
+    ("next legal header, all", exhaustive::next_headers),
+    ("bodies of up to two bytes after the id, all", exhaustive::short_bodies),
+    ("updates of up to three bytes, all", exhaustive::short_updates),
+    ("rules, limits, settings and defaults, all", exhaustive::tables),
+    ("tallies in two orders", orders::run),
+    ("long lists", long::run),
+    ("steps over long lists of records", steps::run),
+    ("lines over streams", streams::run),
+    ("windows, header by header", windows::header_by_header),
+    ("windows, any cells", windows::any_cells),
+];
 
 fn main() -> ExitCode {
     let seed = std::env::args().nth(1).map_or(1, |word| word.parse().expect("a seed is a number"));
     println!("seed {seed}");
-    let exhaustive = exhaustive::KINDS.iter().map(|(name, run)| print(name, run()));
-    let random = KINDS.iter().chain([&LENT]).map(|kind| print(kind.name, run(kind, &mut Random::new(seed))));
-    let mut reports: Vec<Report> = exhaustive.chain(random).collect();
-    reports.push(print("tallies in two orders", orders::run(&mut Random::new(seed))));
-    reports.push(print("long lists", long::run(&mut Random::new(seed))));
-    reports.push(print("steps over long lists of records", steps::run(&mut Random::new(seed))));
-    reports.push(print("lines over streams", streams::run(&mut Random::new(seed))));
-    reports.push(print("windows, header by header", windows::header_by_header(&mut Random::new(seed))));
-    reports.push(print("windows, any cells", windows::any_cells(&mut Random::new(seed))));
-    let [compared, differ, outside] =
-        [Report::compared, Report::differ, Report::outside].map(|f| reports.iter().map(f).sum::<u64>());
-    println!("{compared} compared, {differ} differ, {outside} outside");
-    if differ == 0 && reports.iter().all(|report| report.compared() > 0) {
-        ExitCode::SUCCESS
-    } else {
-        ExitCode::FAILURE
+    let mut all = Report::default();
+    let mut whole = true;
+    let mut print = |name: &str, run: &dyn Fn(&mut Report, &mut Random)| {
+        let mut report = Report::default();
+        run(&mut report, &mut Random::new(seed));
+        println!("{name}: {report}");
+        whole &= report.compared > 0;
+        all.compared += report.compared;
+        all.differ += report.differ;
+        all.outside += report.outside;
+    };
+    OTHERS.iter().for_each(|(name, run)| print(name, run));
+    for kind in KINDS {
+        print(kind.name, &|report, random| {
+            (0..kind.times).for_each(|_| (kind.make)(random).iter().for_each(|call| report.compare(call)));
+        });
     }
-}
-
-fn print(name: &str, report: Report) -> Report {
-    println!("{name}: {report}");
-    report
-}
-
-fn run(kind: &Kind, random: &mut Random) -> Report {
-    let mut report = Report::default();
-    for _ in 0..kind.times {
-        (kind.make)(random).iter().for_each(|(call, input)| report.compare(*call, input));
-    }
-    report
+    println!("{all}");
+    if all.differ == 0 && whole { ExitCode::SUCCESS } else { ExitCode::FAILURE }
 }

@@ -3,16 +3,15 @@
 
 use std::collections::BTreeMap;
 
-use oracle::answers::archive::{first_votes, state_bytes};
-use oracle::answers::bytes::IN_ORDER;
 use oracle::inputs::random::Random;
 use oracle::record::{read_record, HEADERS};
 use oracle::replay::{open, open_mainnet, State};
-use oracle::rules::{self, Votes};
-use oracle::streams::build::{Parts, UPDATE};
+use oracle::rules::Votes;
+use oracle::streams::build::{fields, Parts, Stream, UPDATE};
 use oracle::table::{from_map, to_map, Map};
+use oracle::text::hex;
 
-use crate::report::Report;
+use crate::report::{Difference, Report};
 
 /// How many lists, and how many records are handed over in each. Thirty years have some 7,700 epochs.
 const LISTS: [(usize, usize); 2] = [(150, 500), (3, 9_000)];
@@ -38,35 +37,37 @@ const MET: [&str; 8] = [
     "just half",
 ];
 
-pub fn run(random: &mut Random) -> Report {
-    let mut report = Report::default();
+pub fn run(report: &mut Report, random: &mut Random) {
     let mut met = BTreeMap::new();
     for (count, calls) in LISTS {
-        (0..count).for_each(|_| list(random, calls, &mut report, &mut met));
+        (0..count).for_each(|_| list(random, calls, report, &mut met));
     }
     for name in MET {
         assert!(met.contains_key(name), "no boundary was met where a parameter was {name}: {met:?}");
     }
-    report
 }
 
 fn list(random: &mut Random, calls: usize, report: &mut Report, met: &mut BTreeMap<&'static str, u64>) {
     let height = 1_024 * (1 + random.below(1 << 20) as u32);
-    let mut state = open(height, from_map(&beginning(random))).expect("an opening");
-    let mut bytes = state_bytes(&state, IN_ORDER);
+    let mut stream = Stream::from_state(open(height, from_map(&beginning(random))).expect("an opening"));
     let mut before: Vec<Votes> = Vec::new();
     for _ in 0..calls {
-        let record = record(random, &state);
-        report.compare(0x3d, &[&bytes[..], &record].concat());
-        let Ok(next) = state.replay(&record) else { continue };
-        let (old, new) = (to_map(&state.table), to_map(&next.table));
+        let record = record(random, stream.state());
+        report.compare(&stream.asked(&record));
+        let old = to_map(&stream.state().table);
+        if stream.offer(&record).is_err() {
+            continue;
+        }
+        let new = to_map(&stream.state().table);
         for (id, value) in (1..=9).filter_map(|id| old.get(&id).map(|&value| (id, value))) {
             let said = moved(id, value, &before, met);
-            report.compare_step((id, value), before.as_flattened(), new.get(&id).copied(), said);
+            report.count(new.get(&id) == Some(&said), || Difference {
+                input: format!("parameter {id} of {value}, after an epoch of the votes {}", hex(before.as_flattened())),
+                rust: format!("{:?}", new.get(&id)),
+                library: format!("not asked; the rules say {said}"),
+            });
         }
-        bytes = state_bytes(&next, first_votes(&record));
         before = read_record(&record).expect("a record").0.headers().into_iter().map(|(_, votes)| votes).collect();
-        state = next;
     }
 }
 
@@ -131,7 +132,7 @@ fn beginning(random: &mut Random) -> Map {
 fn record(random: &mut Random, state: &State) -> Vec<u8> {
     let votes = epoch(random, &to_map(&state.table));
     let computed = state.boundary(votes[0], &[]).unwrap_or_else(|_| state.table.clone());
-    let mut parts = Parts { height: state.next, fields: rules::pack_parameters(&to_map(&computed)), votes };
+    let mut parts = Parts { height: state.next, fields: fields(&computed), votes };
     if random.one_in(8) {
         match random.below(3) {
             0 => parts.height = parts.height.wrapping_add(1_024),

@@ -6,19 +6,19 @@ use ergo_voting::{
 use oracle::inputs::random::Random;
 use oracle::inputs::records::stream;
 use oracle::replay::replay_stream;
+use oracle::text::hex;
 
-use crate::report::Report;
+use crate::report::{Difference, Report};
 
 const TIMES: usize = 300;
 const FIRST_HEIGHT: u32 = 1_024;
 
-pub fn run(random: &mut Random) -> Report {
-    let mut report = Report::default();
+pub fn run(report: &mut Report, random: &mut Random) {
     for _ in 0..TIMES {
         let input = stream(random);
-        report.compare_texts(&input, &replay_stream(&input), printed(&input).as_bytes());
+        let (rust, library) = (replay_stream(&input), printed(&input));
+        report.count(rust == library, || Difference { input: format!("what is printed for {}", hex(&input)), rust, library });
     }
-    report
 }
 
 fn printed(input: &[u8]) -> String {

@@ -7,7 +7,7 @@ use oracle::inputs::voting;
 use oracle::listing::accepts;
 use oracle::rules::{self, Votes};
 
-use crate::report::Report;
+use crate::report::{Difference, Report};
 
 const LENGTHS: [u32; 6] = [1, 2, 1_023, 1_024, 4_095, 4_096];
 const LONGEST: u32 = 4_096;
@@ -22,13 +22,9 @@ const USUAL: [Votes; 6] = [[3, 0, 0], [0, 4, 120], [120, 0, 0], [0, 0, 253], [25
 const TIMES: usize = 200_000;
 
 /// New windows, and headers put into them one after another. All cells are compared after every put, at every length.
-pub fn header_by_header(random: &mut Random) -> Report {
-    let mut report = Report::default();
-    new_windows(&mut report, random);
-    for length in LENGTHS {
-        over_headers(&mut report, random, length);
-    }
-    report
+pub fn header_by_header(report: &mut Report, random: &mut Random) {
+    new_windows(report, random);
+    LENGTHS.into_iter().for_each(|length| over_headers(report, random, length));
 }
 
 /// How many cells a window of so many places has, and where the cells of the place with that number begin.
@@ -50,12 +46,26 @@ fn new_windows(report: &mut Report, random: &mut Random) {
     }
 }
 
-/// A new window in cells as a user asks for it, compared with the rules: the window, or minus a refusal's number, and the cells.
+/// Compares what a call answers and the cells that it leaves. Shown is the first cell that differs.
+fn compare(report: &mut Report, input: impl Fn() -> String, rules: (i64, &[u16]), library: (i64, &[u16])) {
+    let first = || rules.1.iter().zip(library.1).position(|(one, other)| one != other);
+    let shown = |(answer, cells): (i64, &[u16])| match first() {
+        Some(i) => format!("{answer}, cell {i} is {}", cells[i]),
+        None => format!("{answer}"),
+    };
+    report.count(rules == library, || Difference {
+        input: input(),
+        rust: format!("has no window; its header check and the rules say {}", shown(rules)),
+        library: shown(library),
+    });
+}
+
+/// A new window in cells, compared with the rules: the window, or minus a refusal's number, and the cells.
 fn new_window(report: &mut Report, length: u32, mut cells: Vec<u16>) -> (i64, Vec<u16>) {
-    let (before, mut expected) = (bytes(&cells), cells.clone());
+    let (before, mut expected) = (cells.clone(), cells.clone());
     let rules = new_by_rules(length, &mut expected);
     let answer = ffi::ergo_window_new(length, &mut cells);
-    report.compare_window(&format!("a new window of {length} in the cells"), &before, (rules, &expected), (answer, &cells));
+    compare(report, || format!("a new window of {length} in the cells {before:?}"), (rules, &expected), (answer, &cells));
     (answer, cells)
 }
 
@@ -87,8 +97,8 @@ fn over_headers(report: &mut Report, random: &mut Random, length: u32) {
             rust = window_of(length, held.len(), accepted.len() % places) as i64;
         }
         let answer = ffi::ergo_window_put(window as u64, &mut cells, &votes);
-        let asked = format!("a window of {length} after the headers");
-        report.compare_window(&asked, headers[..=i].as_flattened(), (rust, &expected), (answer, &cells));
+        let asked = || format!("a window of {length} after the headers {:?}", &headers[..=i]);
+        compare(report, asked, (rust, &expected), (answer, &cells));
         if answer >= 0 {
             window = answer;
         }
@@ -150,8 +160,7 @@ fn legal(random: &mut Random) -> Votes {
 }
 
 /// Headers put into windows and cells that no call left, most of them of a few places.
-pub fn any_cells(random: &mut Random) -> Report {
-    let mut report = Report::default();
+pub fn any_cells(report: &mut Report, random: &mut Random) {
     for _ in 0..TIMES {
         let (window, full) = any_window(random);
         let count = match random.below(8) {
@@ -160,14 +169,13 @@ pub fn any_cells(random: &mut Random) -> Report {
             2 => full + 1 + random.below(9),
             _ => full,
         };
-        let (mut cells, votes) = (cells(random, count), any_votes(random));
-        let (input, mut expected) = ([&votes[..], &bytes(&cells)].concat(), cells.clone());
+        let (before, votes) = (cells(random, count), any_votes(random));
+        let (mut expected, mut cells) = (before.clone(), before.clone());
         let rules = put_by_rules(window, &mut expected, &votes);
         let answer = ffi::ergo_window_put(window, &mut cells, &votes);
-        let asked = format!("window {window:016x}, {} vote bytes and the cells", votes.len());
-        report.compare_window(&asked, &input, (rules, &expected), (answer, &cells));
+        let asked = || format!("window {window:016x}, the votes {votes:?} and the cells {before:?}");
+        compare(report, asked, (rules, &expected), (answer, &cells));
     }
-    report
 }
 
 /// A number, and how many cells its length asks for. Now and then the length is above 4,096 or 0, the oldest's place beyond the
@@ -213,10 +221,6 @@ fn cells(random: &mut Random, count: usize) -> Vec<u16> {
         _ => random.pick(&[0, 1, 2, 3, 4, 120, 252, 253]),
     };
     (0..count).map(|_| cell(random)).collect()
-}
-
-fn bytes(cells: &[u16]) -> Vec<u8> {
-    cells.iter().flat_map(|cell| cell.to_be_bytes()).collect()
 }
 
 /// docs/RULES.md, "In cells". A vote byte past the end counts as 0.

@@ -49,10 +49,10 @@ pub fn body(random: &mut Random) -> Vec<u8> {
 }
 
 /// What a body is asked: whether it is in form, its fields, parameters and update, and the field at each of these places.
-pub fn asked(body: &[u8], at: &[usize]) -> Vec<Call> {
+pub fn asked<'a>(body: &'a [u8], at: &'a [usize]) -> impl Iterator<Item = Call> + 'a {
     let whole = ["check_body", "parse_extension_bytes", "parse_parameters_from_kv", "extract_disabling_rules_from_kv"];
     let fields = at.iter().map(|&at| Call::new("field_at", [body.to_vec(), numbers(&[at])]));
-    whole.into_iter().map(|name| Call::new(name, [body.to_vec()])).chain(fields).collect()
+    whole.into_iter().map(|name| Call::new(name, [body.to_vec()])).chain(fields)
 }
 
 /// Where the fields of a body stand, if the Rust reads it.
@@ -69,7 +69,7 @@ pub fn make(random: &mut Random) -> Vec<Call> {
     }
     let mut at = fields_at(&body);
     at.push(random.below(body.len() + 3));
-    asked(&body, &at)
+    asked(&body, &at).collect()
 }
 
 /// The entries of a table, some of them changed, absent or more.

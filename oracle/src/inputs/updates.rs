@@ -62,12 +62,11 @@ pub fn any(random: &mut Random) -> Vec<u8> {
 }
 
 /// What an update is asked: its sections, and the rule and the status at each of these places.
-pub fn asked(update: &[u8], [rules, statuses]: [&[usize]; 2]) -> Vec<Call> {
+pub fn asked<'a>(update: &'a [u8], [rules, statuses]: [&'a [usize]; 2]) -> impl Iterator<Item = Call> + 'a {
     let at = |name, place: &usize| Call::new(name, [update.to_vec(), numbers(&[*place])]);
-    let mut calls = vec![Call::new("parse_validation_settings_update", [update.to_vec()])];
-    calls.extend(rules.iter().map(|place| at("rule_at", place)));
-    calls.extend(statuses.iter().map(|place| at("status_at", place)));
-    calls
+    let rules = rules.iter().map(move |place| at("rule_at", place));
+    let statuses = statuses.iter().map(move |place| at("status_at", place));
+    std::iter::once(Call::new("parse_validation_settings_update", [update.to_vec()])).chain(rules).chain(statuses)
 }
 
 /// Where the rules and the statuses of an update stand, if the Rust reads it.
@@ -84,5 +83,5 @@ pub fn make(random: &mut Random) -> Vec<Call> {
     let [mut rules, mut statuses] = items_at(&bytes);
     rules.push(random.below(bytes.len() + 2));
     statuses.push(random.below(bytes.len() + 2));
-    asked(&bytes, [&rules, &statuses])
+    asked(&bytes, [&rules, &statuses]).collect()
 }
