@@ -4,9 +4,7 @@ use chain::voting::{self, ExtensionField, RuleStatus, ValidationSettingsUpdate, 
 use chain::Network;
 use sigma_ser::vlq_encode::ReadSigmaVlqExt;
 
-use crate::bytes::{
-    map_bytes, numbers, places_bytes, settings_bytes, table_bytes, value_bytes, Input, IN_ORDER,
-};
+use crate::bytes::{map_bytes, numbers, places_bytes, settings_bytes, table_bytes, value_bytes, Input, IN_ORDER};
 use crate::call::{Answer, Call, Gap, Given};
 use crate::places;
 use crate::record::read_record;
@@ -43,9 +41,9 @@ pub fn answer(call: &Call) -> Given {
         "parameter_max" => accepted(value_bytes(voting::parameter_max(a(0).byte() as i8))),
         "parameter_step" => accepted(value_bytes(voting::parameter_step(a(0).byte() as i8))),
         "check_body" => told(body(bytes(0))?.and_then(|(_, fields)| Ok(voting::parse_parameters_from_kv(&fields)?)), nothing),
-        "parse_extension_bytes" => told(body(bytes(0))?, |(_, fields)| {
-            numbers(&places::section(&places::fields(bytes(0), &fields)))
-        }),
+        "parse_extension_bytes" => {
+            told(body(bytes(0))?, |(_, fields)| numbers(&places::section(&places::fields(bytes(0), &fields))))
+        }
         "field_at" => short(bytes(0)).and_then(|()| told(places::field_at(bytes(0), a(1).u32() as usize), |n| numbers(&n))),
         "parse_parameters_from_kv" => {
             told(body(bytes(0))?.and_then(|(_, fields)| Ok(voting::parse_parameters_from_kv(&fields)?)), |map| map_bytes(&map))
@@ -97,11 +95,19 @@ fn whole(bytes: Vec<u8>) -> Vec<u8> {
 
 /// Longer bytes are 22.
 fn short(bytes: &[u8]) -> Result<(), Gap> {
-    if bytes.len() > MOST as usize { Err(Gap::Outside) } else { Ok(()) }
+    if bytes.len() > MOST as usize {
+        Err(Gap::Outside)
+    } else {
+        Ok(())
+    }
 }
 
 fn network(mut input: Input) -> Network {
-    if input.byte() == 0 { Network::Mainnet } else { Network::Testnet }
+    if input.byte() == 0 {
+        Network::Mainnet
+    } else {
+        Network::Testnet
+    }
 }
 
 /// Later heights aren't read: they rise by one.
@@ -160,7 +166,11 @@ fn listed_fields(mut bytes: &[u8]) -> Result<Vec<ExtensionField>, Gap> {
         fields.push(([*first, *second], value.to_vec()));
         bytes = rest;
     }
-    if bytes.is_empty() { Ok(fields) } else { Err(Gap::NoCounterpart) }
+    if bytes.is_empty() {
+        Ok(fields)
+    } else {
+        Err(Gap::NoCounterpart)
+    }
 }
 
 /// The lists of statuses must fit one another: the Rust has one list of them.

@@ -1,6 +1,7 @@
-//! The round book of document 01, told from the calls alone, against the replay over the Rust.
+//! The rounds as docs/RULES.md tells them from the calls alone, against the replay over the Rust.
 
 use ergo_lib::chain::parameters::{Parameter, Parameters};
+use oracle::inputs::random::Random;
 use oracle::replay::State;
 use oracle::rules::{fork_check, mainnet, Votes};
 use oracle::streams::build::{headers, Stream, FORK, QUIET};
@@ -57,26 +58,11 @@ impl Book {
     }
 }
 
-/// Numbers that are the same at every run.
-struct Numbers(u64);
-
-impl Numbers {
-    fn below(&mut self, bound: u64) -> u64 {
-        self.0 = self.0.wrapping_mul(6_364_136_223_846_793_005).wrapping_add(1_442_695_040_888_963_407);
-        (self.0 >> 33) % bound
-    }
-}
-
 /// An epoch in which the boundary header votes for the fork in so many of 100 cases, and almost all others or some do.
-fn epoch(numbers: &mut Numbers, eager: u64) -> Vec<Votes> {
-    let fork = |slot: u64| match slot {
-        0 => [120, 0, 0],
-        1 => [0, 120, 0],
-        _ => [0, 0, 120],
-    };
-    let count = if numbers.below(100) < eager { 1_000 + numbers.below(24) } else { numbers.below(1_024) };
-    let mut votes: Vec<Votes> = (0..count).map(|_| fork(numbers.below(3))).collect();
-    votes.insert(0, if numbers.below(100) < eager { fork(0) } else { QUIET });
+fn epoch(random: &mut Random, eager: usize) -> Vec<Votes> {
+    let count = if random.below(100) < eager { 1_000 + random.below(24) } else { random.below(1_024) };
+    let mut votes: Vec<Votes> = (0..count).map(|_| random.pick(&[[120, 0, 0], [0, 120, 0], [0, 0, 120]])).collect();
+    votes.insert(0, if random.below(100) < eager { FORK } else { QUIET });
     votes.resize(LENGTH as usize, QUIET);
     votes
 }
@@ -92,15 +78,15 @@ fn tables_agree(state: &State) -> bool {
 }
 
 /// Some 450 epochs, with refused records between them. Answers how often the version rose, and how many were refused.
-fn run(seed: u64, eager: u64) -> (i32, u32) {
-    let mut numbers = Numbers(seed);
+fn run(seed: u64, eager: usize) -> (i32, u32) {
+    let mut random = Random::new(seed);
     let mut s = Stream::new();
     let mut book = Book { version: 1, round: None, before: Vec::new() };
     let mut refused = 0;
     for _ in 0..450 {
         let height = s.state().next;
         assert!(tables_agree(s.state()), "seed {seed}, height {height}");
-        let votes = epoch(&mut numbers, eager);
+        let votes = epoch(&mut random, eager);
         let record = s.next(votes.clone()).bytes();
         let votes = match s.state().replay(&record) {
             Ok(_) => votes,

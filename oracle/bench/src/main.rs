@@ -2,19 +2,19 @@
 //! `replay` beside `sha256sum`.
 
 mod streams;
+mod timing;
 mod window;
 
 use std::fs::{self, File};
 use std::io;
 use std::path::{Path, PathBuf};
 use std::process::{Command, Stdio};
-use std::time::Instant;
 
 use ergo_voting::{Network, State, Table};
 use oracle::replay::open_mainnet;
 use streams::{Timed, EPOCHS, HEADERS};
+use timing::{best, RUNS};
 
-const RUNS: usize = 25;
 const FIRST_HEIGHT: u32 = 1_024;
 
 fn main() -> io::Result<()> {
@@ -70,16 +70,6 @@ fn run(program: &str, arguments: &[&PathBuf], input: &Path) {
     let input = File::open(input).expect("the stream's file");
     let status = Command::new(program).args(arguments).stdin(input).stdout(Stdio::null()).status();
     assert!(status.expect("a program that runs").success());
-}
-
-/// The least time of all runs, in seconds.
-fn best(mut run: impl FnMut()) -> f64 {
-    let times = (0..RUNS).map(|_| {
-        let begin = Instant::now();
-        run();
-        begin.elapsed().as_secs_f64()
-    });
-    times.fold(f64::MAX, f64::min)
 }
 
 fn speed(seconds: f64) -> String {

@@ -6,7 +6,7 @@ use ergo_voting::ffi;
 use oracle::rules::Votes;
 
 use crate::streams::{headers_alone, FORK, VOTING};
-use crate::{best, RUNS};
+use crate::timing::{best, RUNS};
 
 const LENGTHS: [usize; 2] = [1_024, 4_096];
 const SUPPORTS: usize = 256;

@@ -55,5 +55,9 @@ fn main() -> ExitCode {
         });
     }
     println!("{all}");
-    if all.differ == 0 && whole { ExitCode::SUCCESS } else { ExitCode::FAILURE }
+    if all.differ == 0 && whole {
+        ExitCode::SUCCESS
+    } else {
+        ExitCode::FAILURE
+    }
 }

@@ -128,14 +128,15 @@ pub fn chosen() -> Vec<Call> {
     [rounds(), versions(), subblocks(), steps()].concat()
 }
 
-/// All that happens to a round, approved or not, with and without a vote for the next one.
+/// All that happens to a round, approved or not, with and without a vote for the next one; and a total that wraps.
 fn rounds() -> Vec<Call> {
     let mut calls = Vec::new();
-    for epochs in [0, 1, 32, 33, 34, 64, 65, 66] {
+    for epochs in [1, 32, 33, 34, 64, 65] {
         for (total, fork_vote) in [(29_491, false), (29_491, true), (29_492, false), (29_492, true)] {
             calls.push(Question { fork_vote, ..after(epochs, &[(121, total)]) }.asked(&[], Vec::new()));
         }
     }
+    calls.extend([1, 33, 64].map(|epochs| after(epochs, &[(121, i32::MAX)]).asked(&[(120, 1)], Vec::new())));
     calls
 }
 
