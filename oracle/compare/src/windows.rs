@@ -4,7 +4,6 @@
 use ergo_voting::ffi;
 use oracle::inputs::random::Random;
 use oracle::inputs::voting;
-use oracle::listing::accepts;
 use oracle::rules::{self, Votes};
 
 use crate::report::{Difference, Report};
@@ -21,12 +20,6 @@ const USUAL: [Votes; 6] = [[3, 0, 0], [0, 4, 120], [120, 0, 0], [0, 0, 253], [25
 /// How many headers are put into cells that no call left.
 const TIMES: usize = 200_000;
 
-/// New windows, and headers put into them one after another. All cells are compared after every put, at every length.
-pub fn header_by_header(report: &mut Report, random: &mut Random) {
-    new_windows(report, random);
-    LENGTHS.into_iter().for_each(|length| over_headers(report, random, length));
-}
-
 /// How many cells a window of so many places has, and where the cells of the place with that number begin.
 fn size(length: u32) -> usize {
     SUPPORTS + 3 * length as usize
@@ -36,46 +29,42 @@ fn window_of(length: u32, held: usize, oldest: usize) -> u64 {
     (u64::from(length) << 32) | ((held as u64) << 16) | oldest as u64
 }
 
-/// Lengths in their range and outside, some of them in it modulo 2^16; cells that are too few, enough, and more.
-fn new_windows(report: &mut Report, random: &mut Random) {
+/// New windows, and headers put into them one after another. All cells are compared after every put, at every length.
+pub fn header_by_header(report: &mut Report, random: &mut Random) {
+    // Some lengths are in their range modulo 2^16; the cells are too few, enough, or more.
     for length in LENGTHS.into_iter().chain([0, 4_097, 65_535, 65_536, 65_537, 69_632, 1 << 31, u32::MAX]) {
         let full = size(length.min(LONGEST));
         for count in [0, 1, SUPPORTS - 1, SUPPORTS, full - 1, full, full + 1, full + random.below(9)] {
             new_window(report, length, cells(random, count));
         }
     }
+    LENGTHS.into_iter().for_each(|length| over_headers(report, random, length));
 }
 
 /// Compares what a call answers and the cells that it leaves. Shown is the first cell that differs.
 fn compare(report: &mut Report, input: impl Fn() -> String, rules: (i64, &[u16]), library: (i64, &[u16])) {
-    let first = || rules.1.iter().zip(library.1).position(|(one, other)| one != other);
-    let shown = |(answer, cells): (i64, &[u16])| match first() {
-        Some(i) => format!("{answer}, cell {i} is {}", cells[i]),
-        None => format!("{answer}"),
-    };
-    report.count(rules == library, || Difference {
-        input: input(),
-        rust: format!("has no window; its header check and the rules say {}", shown(rules)),
-        library: shown(library),
+    report.count(rules == library, || {
+        let cell = rules.1.iter().zip(library.1).position(|(one, other)| one != other).unwrap_or(0);
+        let shown = |(answer, cells): (i64, &[u16])| format!("{answer}, cell {cell} is {:?}", cells.get(cell));
+        let rust = format!("has no window; its header check and the rules say {}", shown(rules));
+        Difference { input: input(), rust, library: shown(library) }
     });
 }
 
 /// A new window in cells, compared with the rules: the window, or minus a refusal's number, and the cells.
-fn new_window(report: &mut Report, length: u32, mut cells: Vec<u16>) -> (i64, Vec<u16>) {
-    let (before, mut expected) = (cells.clone(), cells.clone());
-    let rules = new_by_rules(length, &mut expected);
+fn new_window(report: &mut Report, length: u32, before: Vec<u16>) -> (i64, Vec<u16>) {
+    let (mut expected, mut cells) = (before.clone(), before.clone());
+    let rules = match expected.get_mut(..size(length.min(LONGEST))) {
+        _ if length == 0 || length > LONGEST => -WINDOW_LENGTH_OUTSIDE,
+        None => -OUTPUT_SHORT,
+        Some(own) => {
+            own.fill(0);
+            window_of(length, 0, 0) as i64
+        }
+    };
     let answer = ffi::ergo_window_new(length, &mut cells);
     compare(report, || format!("a new window of {length} in the cells {before:?}"), (rules, &expected), (answer, &cells));
     (answer, cells)
-}
-
-fn new_by_rules(length: u32, cells: &mut [u16]) -> i64 {
-    if length == 0 || length > LONGEST {
-        return -WINDOW_LENGTH_OUTSIDE;
-    }
-    let Some(own) = cells.get_mut(..size(length)) else { return -OUTPUT_SHORT };
-    own.fill(0);
-    window_of(length, 0, 0) as i64
 }
 
 /// Headers put into a new window. What is expected comes from the list of those that the Rust accepts, and never from the window:
@@ -99,23 +88,16 @@ fn over_headers(report: &mut Report, random: &mut Random, length: u32) {
         let answer = ffi::ergo_window_put(window as u64, &mut cells, &votes);
         let asked = || format!("a window of {length} after the headers {:?}", &headers[..=i]);
         compare(report, asked, (rust, &expected), (answer, &cells));
-        if answer >= 0 {
-            window = answer;
-        }
+        window = if answer >= 0 { answer } else { window };
     }
     assert!(accepted.len() > 3 * places);
 }
 
-/// How many of the headers have each byte among their three; of 0 there are none.
+/// How many of the headers have each byte among their three; of 0 there are none. A legal header has none twice.
 fn supports(headers: &[Votes]) -> [u16; SUPPORTS] {
     let mut supports = [0; SUPPORTS];
-    for votes in headers {
-        for (slot, &id) in votes.iter().enumerate() {
-            if id != 0 && !votes[..slot].contains(&id) {
-                supports[usize::from(id)] += 1;
-            }
-        }
-    }
+    headers.as_flattened().iter().for_each(|&id| supports[usize::from(id)] += 1);
+    supports[0] = 0;
     supports
 }
 
@@ -150,26 +132,19 @@ fn header(random: &mut Random) -> Votes {
 }
 
 fn legal(random: &mut Random) -> Votes {
-    loop {
-        let mut votes = [random.byte(), random.byte(), random.pick(&[0, 120])];
-        votes.rotate_left(random.below(3));
-        if accepts(votes) {
-            return votes;
-        }
-    }
+    let mut votes = [random.byte(), random.byte(), random.pick(&[0, 120])];
+    votes.rotate_left(random.below(3));
+    if check(votes) == 0 { votes } else { legal(random) }
 }
 
-/// Headers put into windows and cells that no call left, most of them of a few places.
+/// Headers put into windows and cells that no call left, most of them of a few places; a header has now and then fewer bytes or more.
 pub fn any_cells(report: &mut Report, random: &mut Random) {
     for _ in 0..TIMES {
         let (window, full) = any_window(random);
-        let count = match random.below(8) {
-            0 => full - 1,
-            1 => random.below(full),
-            2 => full + 1 + random.below(9),
-            _ => full,
-        };
-        let (before, votes) = (cells(random, count), any_votes(random));
+        let count = [full - 1, random.below(full), full + 1 + random.below(9)].get(random.below(8)).copied().unwrap_or(full);
+        let (before, mut votes) = (cells(random, count), header(random).to_vec());
+        votes.extend(random.bytes(3));
+        votes.truncate(random.pick(&[0, 1, 2, 3, 3, 3, 3, 6]));
         let (mut expected, mut cells) = (before.clone(), before.clone());
         let rules = put_by_rules(window, &mut expected, &votes);
         let answer = ffi::ergo_window_put(window, &mut cells, &votes);
@@ -181,36 +156,18 @@ pub fn any_cells(report: &mut Report, random: &mut Random) {
 /// A number, and how many cells its length asks for. Now and then the length is above 4,096 or 0, the oldest's place beyond the
 /// length, more is held than fits, or there are bits above the 48.
 fn any_window(random: &mut Random) -> (u64, usize) {
+    let any = random.number() % 65_536;
     let length = match random.below(200) {
         0 => random.pick(&[4_095, 4_096, 4_097, 65_535]),
-        1 => random.number() % 65_536,
+        1 => any,
         2..10 => 0,
         _ => 1 + random.below(6) as u32,
     };
-    let places = length as usize;
-    let held = match random.below(4) {
-        0 => places,
-        1 => random.number() as usize % 65_536,
-        _ => random.below(places + 2) % 65_536,
-    };
-    let oldest = match random.below(8) {
-        0 => places,
-        1 => random.number() as usize % 65_536,
-        _ => random.below(places.max(1)),
-    };
+    let (places, other) = (length as usize, random.number() as usize % 65_536);
+    let held = [places, other].get(random.below(4)).copied().unwrap_or(random.below(places + 2) % 65_536);
+    let oldest = [places, other].get(random.below(8)).copied().unwrap_or(random.below(places.max(1)));
     let above = if random.one_in(4) { random.bits() << 48 } else { 0 };
     (above | window_of(length, held, oldest), size(length))
-}
-
-/// A header's bytes, now and then fewer or more.
-fn any_votes(random: &mut Random) -> Vec<u8> {
-    let mut votes = header(random).to_vec();
-    match random.below(8) {
-        0 => votes.truncate(random.below(3)),
-        1 => votes.extend(random.bytes(3)),
-        _ => (),
-    }
-    votes
 }
 
 /// Cells with bytes that headers have, other numbers, and those at the ends of 16 bits.
@@ -227,22 +184,17 @@ fn cells(random: &mut Random, count: usize) -> Vec<u16> {
 fn put_by_rules(window: u64, cells: &mut [u16], votes: &[u8]) -> i64 {
     let votes: Votes = [0, 1, 2].map(|slot| votes.get(slot).copied().unwrap_or(0));
     let [length, held, oldest] = [32, 16, 0].map(|bits| (window >> bits) as u16);
-    let refusal = check(votes);
-    if refusal != 0 {
-        return -refusal;
+    if check(votes) != 0 {
+        return -check(votes);
     }
     if u32::from(length) > LONGEST || oldest >= length || cells.len() < size(length.into()) {
         return -OUTPUT_SHORT;
     }
     for (at, id) in (size(oldest.into())..).zip(votes) {
-        let left = usize::from(cells[at] % 256);
-        if left != 0 {
-            cells[left] = cells[left].wrapping_sub(1);
-        }
+        let (leaves, enters) = (usize::from(cells[at] % 256), usize::from(id));
         cells[at] = id.into();
-        if id != 0 {
-            cells[usize::from(id)] = cells[usize::from(id)].wrapping_add(1);
-        }
+        cells[leaves] = cells[leaves].wrapping_sub(u16::from(leaves != 0));
+        cells[enters] = cells[enters].wrapping_add(u16::from(enters != 0));
     }
     let held = if held < length { held + 1 } else { held };
     window_of(length.into(), held.into(), ((oldest + 1) % length).into()) as i64

@@ -1,4 +1,4 @@
-//! Stand-in for `ergo_chain_types`: a block id is 32 bytes. Header, digest and proof-of-work error are names only.
+//! Stand-in for `ergo_chain_types`: a block id is 32 bytes. The rest is names only.
 
 use std::str::FromStr;
 
@@ -14,21 +14,12 @@ impl From<[u8; 32]> for Digest32 {
 #[derive(Debug, Clone, Copy, PartialEq, Eq)]
 pub struct BlockId(pub Digest32);
 
-#[derive(Debug)]
-pub struct NotHex;
-
+/// Not run: no id is read from text.
 impl FromStr for BlockId {
-    type Err = NotHex;
+    type Err = ();
 
-    fn from_str(text: &str) -> Result<Self, NotHex> {
-        if text.len() != 64 || !text.is_ascii() {
-            return Err(NotHex);
-        }
-        let mut bytes = [0; 32];
-        for (i, byte) in bytes.iter_mut().enumerate() {
-            *byte = u8::from_str_radix(&text[2 * i..2 * i + 2], 16).map_err(|_| NotHex)?;
-        }
-        Ok(BlockId(Digest32(bytes)))
+    fn from_str(_: &str) -> Result<Self, ()> {
+        Err(())
     }
 }
 

@@ -1,4 +1,4 @@
-//! Stand-in for `ergo_lib`, as document 01 has it: a table of twelve entries, and a status of size, code and raw bytes.
+//! Stand-in for `ergo_lib`, as docs/RULES.md has it: a table of twelve entries, and a status of size, code and raw bytes.
 
 pub mod chain {
     pub mod parameters;

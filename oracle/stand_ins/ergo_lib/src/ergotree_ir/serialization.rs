@@ -3,24 +3,19 @@ use std::io::{self, Read, Write};
 
 use sigma_ser::vlq_encode::VlqEncodingError;
 
+/// A number is unreadable, or bytes are missing.
 #[derive(Debug)]
-pub enum SigmaParsingError {
-    Number(VlqEncodingError),
-    Cut,
-}
+pub struct SigmaParsingError;
 
 impl fmt::Display for SigmaParsingError {
     fn fmt(&self, f: &mut fmt::Formatter<'_>) -> fmt::Result {
-        match self {
-            SigmaParsingError::Number(e) => e.fmt(f),
-            SigmaParsingError::Cut => f.write_str("bytes are missing"),
-        }
+        f.write_str("unreadable")
     }
 }
 
 impl From<VlqEncodingError> for SigmaParsingError {
-    fn from(e: VlqEncodingError) -> Self {
-        SigmaParsingError::Number(e)
+    fn from(_: VlqEncodingError) -> Self {
+        SigmaParsingError
     }
 }
 
@@ -38,23 +33,13 @@ pub mod sigma_byte_reader {
 }
 
 pub mod sigma_byte_writer {
-    use std::io::{self, Write};
+    pub struct SigmaByteWriter;
 
-    pub struct SigmaByteWriter<'a>(&'a mut Vec<u8>);
-
-    impl<'a> SigmaByteWriter<'a> {
-        /// The Rust hands no constants over.
-        pub fn new(out: &'a mut Vec<u8>, _constants: Option<()>) -> Self {
-            SigmaByteWriter(out)
-        }
-    }
-
-    impl Write for SigmaByteWriter<'_> {
-        fn write(&mut self, bytes: &[u8]) -> io::Result<usize> {
-            self.0.write(bytes)
-        }
-        fn flush(&mut self) -> io::Result<()> {
-            Ok(())
+    impl SigmaByteWriter {
+        /// Bytes are put at the end of the list itself. The Rust hands no constants over.
+        #[allow(clippy::new_ret_no_self)]
+        pub fn new(out: &mut Vec<u8>, _constants: Option<()>) -> &mut Vec<u8> {
+            out
         }
     }
 }

@@ -17,11 +17,9 @@ pub struct RuleStatus {
 impl SigmaSerializable for RuleStatus {
     fn sigma_parse<R: Read>(r: &mut R) -> Result<Self, SigmaParsingError> {
         let size = r.get_u16()?;
-        let mut code = [0];
-        r.read_exact(&mut code).map_err(|_| SigmaParsingError::Cut)?;
-        let mut data = vec![0; size.into()];
-        r.read_exact(&mut data).map_err(|_| SigmaParsingError::Cut)?;
-        Ok(RuleStatus { code: code[0], data })
+        let mut data = vec![0; 1 + usize::from(size)];
+        r.read_exact(&mut data).map_err(|_| SigmaParsingError)?;
+        Ok(RuleStatus { code: data.remove(0), data })
     }
 
     fn sigma_serialize<W: Write>(&self, w: &mut W) -> io::Result<()> {
