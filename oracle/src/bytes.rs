@@ -3,7 +3,7 @@
 use chain::voting::VotingConfig;
 use ergo_lib::chain::parameters::{Parameter, Parameters};
 
-use crate::rules::{Tally, Votes};
+use crate::rules::{Question, Tally, Votes};
 use crate::table::{self, Map};
 
 /// What is left of an argument. A byte past its end counts as 0.
@@ -24,24 +24,19 @@ impl Input<'_> {
         u32::from_be_bytes(self.array())
     }
 
-    fn value(&mut self) -> Option<i32> {
-        let (present, bits) = (self.byte() != 0, self.u32());
-        present.then_some(bits as i32)
-    }
-
     pub fn table(&mut self) -> Parameters {
-        let values = table::ENTRIES.map(|entry| (entry, self.value()));
-        let present = |(entry, value): (Parameter, Option<i32>)| value.map(|value| (entry, value));
+        let values = table::ENTRIES.map(|entry| (entry, self.byte() != 0, self.u32() as i32));
+        let present = |(entry, present, value): (Parameter, bool, i32)| present.then_some((entry, value));
         Parameters { parameters_table: values.into_iter().filter_map(present).collect() }
     }
 
     pub fn settings(&mut self) -> VotingConfig {
-        VotingConfig {
-            voting_length: self.u32(),
-            soft_fork_epochs: self.u32(),
-            activation_epochs: self.u32(),
-            version2_activation_height: self.u32(),
-        }
+        let [voting_length, soft_fork_epochs, activation_epochs, version2_activation_height] = [(); 4].map(|()| self.u32());
+        VotingConfig { voting_length, soft_fork_epochs, activation_epochs, version2_activation_height }
+    }
+
+    pub fn question(&mut self) -> Question {
+        Question { settings: self.settings(), height: self.u32(), table: self.table(), fork_vote: self.byte() != 0 }
     }
 
     /// All that is left, as items of a size. What is no whole item is none.
@@ -67,8 +62,13 @@ pub fn numbers(numbers: &[usize]) -> Vec<u8> {
     numbers.iter().flat_map(bytes).collect()
 }
 
+/// A byte and a number: a present value, an entry of a tally or of a map.
+fn entry_bytes(byte: u8, number: u32) -> Vec<u8> {
+    [&[byte], &number.to_be_bytes()[..]].concat()
+}
+
 pub fn value_bytes(value: Option<i32>) -> Vec<u8> {
-    [&[value.is_some().into()], &value.unwrap_or(0).to_be_bytes()[..]].concat()
+    entry_bytes(value.is_some().into(), value.unwrap_or(0) as u32)
 }
 
 pub fn table_bytes(table: &Parameters) -> Vec<u8> {
@@ -80,12 +80,12 @@ pub fn settings_bytes(s: &VotingConfig) -> Vec<u8> {
     numbers.into_iter().flat_map(u32::to_be_bytes).collect()
 }
 
-pub fn question_bytes(settings: &VotingConfig, height: u32, table: &Parameters, fork_vote: bool) -> Vec<u8> {
-    [settings_bytes(settings), height.to_be_bytes().into(), table_bytes(table), vec![fork_vote.into()]].concat()
+pub fn question_bytes(q: &Question) -> Vec<u8> {
+    [settings_bytes(&q.settings), q.height.to_be_bytes().into(), table_bytes(&q.table), vec![q.fork_vote.into()]].concat()
 }
 
 pub fn tally_bytes(tally: &[(i8, u32)]) -> Vec<u8> {
-    tally.iter().flat_map(|(id, count)| [&[*id as u8], &count.to_be_bytes()[..]].concat()).collect()
+    tally.iter().flat_map(|&(id, count)| entry_bytes(id as u8, count)).collect()
 }
 
 /// For a tally that was not seeded by a header: its entries stand in the first places.
@@ -103,5 +103,5 @@ pub fn places_bytes(tally: &[(i8, u32)], seed: Votes) -> Vec<u8> {
 pub fn map_bytes(map: &Map) -> Vec<u8> {
     let mut entries: Vec<(u8, i32)> = map.iter().map(|(&id, &value)| (id as u8, value)).collect();
     entries.sort_unstable();
-    entries.into_iter().flat_map(|(id, value)| [&[id], &value.to_be_bytes()[..]].concat()).collect()
+    entries.into_iter().flat_map(|(id, value)| entry_bytes(id, value as u32)).collect()
 }

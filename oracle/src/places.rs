@@ -2,9 +2,11 @@
 
 use chain::voting::{self, ExtensionField, RuleStatus, ValidationSettingsUpdate};
 use ergo_lib::ergotree_ir::serialization::SigmaSerializable;
+use ergo_lib::ergotree_ir::validation::FIRST_RULE_ID;
 use sigma_ser::vlq_encode::ReadSigmaVlqExt;
 
 use crate::refusal::Refusal;
+use crate::rules;
 
 /// Where each item begins, and at the end where the last one ends.
 pub type Places = Vec<usize>;
@@ -21,12 +23,10 @@ fn place(bytes: &[u8], rest: &[u8]) -> usize {
 
 /// The fields of a body that was read.
 pub fn fields(body: &[u8], fields: &[ExtensionField]) -> Places {
-    let mut rest = &body[32..];
-    rest.get_u32().expect("a count that was read");
-    fields.iter().fold(vec![place(body, rest)], |mut places, (_, value)| {
-        places.push(places[places.len() - 1] + 3 + value.len());
-        places
-    })
+    let (_, rest) = rules::declared(body).expect("a count that was read");
+    let mut places = vec![place(body, rest)];
+    fields.iter().for_each(|(_, value)| places.push(places[places.len() - 1] + 3 + value.len()));
+    places
 }
 
 /// The rules and the statuses of an update that was read. Empty bytes have none.
@@ -52,24 +52,24 @@ fn items(bytes: &[u8], rest: &mut &[u8], count: usize, item: impl Fn(&mut &[u8])
 
 /// The key of the field at a position, and where its value begins and ends: the Rust reads a body that has it alone.
 pub fn field_at(body: &[u8], at: usize) -> Result<[usize; 4], Refusal> {
-    let (_, fields) = voting::parse_extension_bytes(&[&[0; 32][..], &[1], from(body, at)].concat())?;
+    let (_, fields) = voting::parse_extension_bytes(&[&[0; 32][..], &[1], from(body, at)?].concat())?;
     let ([first, second], value) = &fields[0];
     Ok([(*first).into(), (*second).into(), at + 3, at + 3 + value.len()])
 }
 
 /// The rule at a position and where it ends. The Rust reads it as the offset of a status without raw bytes: so it may be mandatory.
 pub fn rule_at(bytes: &[u8], at: usize) -> Result<[usize; 2], Refusal> {
-    let rule = from(bytes, at);
+    let rule = from(bytes, at)?;
     let mut rest = rule;
     let status: &[u8] = if rest.get_u16().is_ok() { &[0, 0] } else { &[] };
     let end = place(rule, rest);
     let (id, _) = only_status(&[&rule[..end], status].concat())?;
-    Ok([id.wrapping_sub(FIRST_STATUS).into(), at + end])
+    Ok([id.wrapping_sub(FIRST_RULE_ID as u16).into(), at + end])
 }
 
 /// The 16 bits of the id and the code of the status at a position, and where its raw bytes begin and end.
 pub fn status_at(bytes: &[u8], at: usize) -> Result<[usize; 4], Refusal> {
-    let status = from(bytes, at);
+    let status = from(bytes, at)?;
     let (id, RuleStatus { code, data }) = only_status(status)?;
     let mut rest = status;
     for _ in 0..2 {
@@ -79,15 +79,14 @@ pub fn status_at(bytes: &[u8], at: usize) -> Result<[usize; 4], Refusal> {
     Ok([id.into(), code.into(), begin, begin + data.len()])
 }
 
-/// The rule whose offset is 0.
-const FIRST_STATUS: u16 = 1_000;
-
 fn only_status(bytes: &[u8]) -> Result<(u16, RuleStatus), Refusal> {
     let mut update = voting::parse_validation_settings_update(&[&[0, 1], bytes].concat())?;
     let (id, status) = update.statuses.remove(0);
     Ok((id as u16, status))
 }
 
-fn from(bytes: &[u8], at: usize) -> &[u8] {
-    bytes.get(at..).unwrap_or(&[])
+/// What bytes have from a position on.
+fn from(bytes: &[u8], at: usize) -> Result<&[u8], Refusal> {
+    rules::at_most(bytes.len(), rules::MOST)?;
+    Ok(bytes.get(at..).unwrap_or(&[]))
 }

@@ -1,5 +1,7 @@
 //! The bytes of a record, as docs/RULES.md has them. Nothing of this is in the Rust.
 
+use std::ops::RangeInclusive;
+
 use crate::refusal::{refuse, Refusal};
 use crate::rules::Votes;
 
@@ -33,16 +35,18 @@ pub fn read_record(bytes: &[u8]) -> Result<(Record<'_>, &[u8]), Refusal> {
 }
 
 /// A field's value, and what follows it. 25 if the tag or the length is another one, or the field is cut.
-fn read_field(bytes: &[u8], tag: u8, lengths: std::ops::RangeInclusive<usize>) -> Result<(&[u8], &[u8]), Refusal> {
-    let Some(([found, high, low], rest)) = bytes.split_first_chunk() else { return refuse(25) };
-    let length = usize::from(u16::from_be_bytes([*high, *low]));
-    if *found != tag || !lengths.contains(&length) {
-        return refuse(25);
-    }
+fn read_field(bytes: &[u8], tag: u8, lengths: RangeInclusive<usize>) -> Result<(&[u8], &[u8]), Refusal> {
+    let Some(([found, length @ ..], rest)) = bytes.split_first_chunk::<3>() else { return refuse(25) };
+    let length = usize::from(u16::from_be_bytes(*length));
     match rest.split_at_checked(length) {
-        Some(parts) => Ok(parts),
-        None => refuse(25),
+        Some(parts) if *found == tag && lengths.contains(&length) => Ok(parts),
+        _ => refuse(25),
     }
+}
+
+/// The votes of the boundary header of a record that was read.
+pub fn first_votes(record: &[u8]) -> Votes {
+    read_record(record).expect("a record that was read").0.headers()[0].1
 }
 
 /// A field's bytes, whatever its tag and length.

@@ -70,7 +70,7 @@ fn epoch(random: &mut Random, eager: usize) -> Vec<Votes> {
 /// Whether a fork vote is allowed at each height of the next epoch by the old table just where it is by the new one, with and
 /// without a fork vote of the boundary header.
 fn tables_agree(state: &State) -> bool {
-    let allowed = |table: &Parameters, height| fork_check(&mainnet(), height, FORK, table).expect("an answer");
+    let allowed = |table: &Parameters, height| fork_check(&mainnet(), height, FORK, table).is_ok();
     [QUIET, FORK].into_iter().all(|boundary_header| {
         let new = state.boundary(boundary_header, &[]).expect("a table");
         (state.next..state.next + LENGTH).all(|height| allowed(&state.table, height) == allowed(&new, height))
@@ -79,28 +79,22 @@ fn tables_agree(state: &State) -> bool {
 
 /// Some 450 epochs, with refused records between them. Answers how often the version rose, and how many were refused.
 fn run(seed: u64, eager: usize) -> (i32, u32) {
-    let mut random = Random::new(seed);
-    let mut s = Stream::new();
+    let (mut random, mut s, mut refused) = (Random::new(seed), Stream::mainnet(), 0);
     let mut book = Book { version: 1, round: None, before: Vec::new() };
-    let mut refused = 0;
     for _ in 0..450 {
-        let height = s.state().next;
-        assert!(tables_agree(s.state()), "seed {seed}, height {height}");
-        let votes = epoch(&mut random, eager);
-        let record = s.next(votes.clone()).bytes();
-        let votes = match s.state().replay(&record) {
-            Ok(_) => votes,
-            Err(refusal) => {
-                assert_eq!(refusal.number, 12);
-                refused += 1;
-                headers(&[])
-            }
-        };
-        s.epoch(votes.clone());
+        let height = s.state.next;
+        assert!(tables_agree(&s.state), "seed {seed}, height {height}");
+        let mut votes = epoch(&mut random, eager);
+        if let Err(refusal) = s.offer(&s.next(votes.clone()).bytes()) {
+            assert_eq!(refusal.number, 12);
+            refused += 1;
+            votes = headers(&[]);
+            s.accept(&s.quiet().bytes());
+        }
         book.accepted(height, &votes);
-        assert!(book.agrees(s.state()), "seed {seed}, height {height}");
+        assert!(book.agrees(&s.state), "seed {seed}, height {height}");
     }
-    assert!(s.state().next > VERSION_2_HEIGHT);
+    assert!(s.state.next > VERSION_2_HEIGHT);
     (book.version, refused)
 }
 

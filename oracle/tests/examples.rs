@@ -7,7 +7,8 @@ use ergo_lib::chain::parameters::Parameters;
 use oracle::call::{Answer, Call};
 use oracle::refusal::Refusal;
 use oracle::replay::{open, open_mainnet, replay_stream};
-use oracle::streams::build::{headers, Stream};
+use oracle::rules::Question;
+use oracle::streams::build::Stream;
 use oracle::table::{from_map, to_map};
 use oracle::{rules, streams, text};
 
@@ -24,7 +25,8 @@ fn table(entries: &[(i8, i32)]) -> Parameters {
 fn year_of_steps() {
     let moved = |value, vote| {
         let old = table(&[(4, value), (123, 1)]);
-        let (new, _) = rules::boundary(&rules::mainnet(), 2048, &old, &[(vote, 1024)], false, &[]).expect("a table");
+        let question = Question { settings: rules::mainnet(), height: 2048, table: old, fork_vote: false };
+        let (new, _) = rules::boundary(&question, &[(vote, 1024)], &[]).expect("a table");
         to_map(&new)[&4]
     };
     let year = |vote| (0..257).fold(1_000_000, |value, _| moved(value, vote));
@@ -35,8 +37,8 @@ fn year_of_steps() {
 #[test]
 fn order_of_entries() {
     let settings = VotingConfig { voting_length: 1, soft_fork_epochs: 1, activation_epochs: 1, version2_activation_height: 0 };
-    let old = table(&[(1, 2_500_000), (123, 1)]);
-    let ask = |ids: [i8; 2]| rules::boundary(&settings, 1, &old, &ids.map(|id| (id, 1)), false, &[]);
+    let question = Question { settings, height: 1, table: table(&[(1, 2_500_000), (123, 1)]), fork_vote: false };
+    let ask = |ids: [i8; 2]| rules::boundary(&question, &ids.map(|id| (id, 1)), &[]);
     let first = |ids| ask(ids).map(|(new, _)| to_map(&new)[&1]);
     assert_eq!([first([-1, 1]), first([1, -1])], [Ok(2_500_000), Ok(2_475_000)]);
     assert_eq!([number(ask([10, 2])), number(ask([2, 10]))], [13, 14]);
@@ -45,14 +47,14 @@ fn order_of_entries() {
 #[test]
 fn after_the_last_height() {
     let mut s = Stream::from_state(open(2_147_482_624, table(&[(123, 1)])).expect("an opening"));
-    let next = |s: &Stream| s.next(headers(&[])).bytes();
+    let next = |s: &Stream| s.quiet().bytes();
     s.accept(&next(&s));
-    assert_eq!(number(s.state().replay(&next(&s))), 26);
+    assert_eq!(number(s.state.replay(&next(&s))), 26);
 }
 
 #[test]
 fn one_record_alone() {
-    let mut bytes = Stream::new().next(headers(&[])).bytes();
+    let mut bytes = Stream::mainnet().quiet().bytes();
     assert_eq!(replay_stream(&bytes), "height version start votes\n1024 1 - -\nend 1 0\n");
     bytes.push(0);
     assert_eq!(number(open_mainnet().replay(&bytes)), 25);

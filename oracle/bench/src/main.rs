@@ -11,8 +11,9 @@ use std::path::{Path, PathBuf};
 use std::process::{Command, Stdio};
 
 use ergo_voting::{Network, State, Table};
+use oracle::record::HEADERS;
 use oracle::replay::open_mainnet;
-use streams::{Timed, EPOCHS, HEADERS};
+use streams::{Timed, EPOCHS};
 use timing::{best, RUNS};
 
 const FIRST_HEIGHT: u32 = 1_024;
@@ -35,34 +36,26 @@ fn in_memory(stream: &Timed) {
 }
 
 fn replay_rust(records: &[Vec<u8>]) {
-    let mut state = open_mainnet();
-    for record in records {
-        state = state.replay(record).expect("a record that is accepted");
-    }
+    let replay = |state: oracle::replay::State, record: &Vec<u8>| state.replay(record).expect("a record that is accepted");
+    let state = records.iter().fold(open_mainnet(), replay);
     assert_eq!(state.next as usize, (EPOCHS + 1) * HEADERS);
 }
 
 fn replay_port(records: &[Vec<u8>]) {
     let table = Table::default_parameters(Network::Mainnet);
     let mut state = State::open(FIRST_HEIGHT, &table).expect("an opening at 1,024");
-    for record in records {
-        state.replay(record).expect("a record that is accepted");
-    }
+    records.iter().for_each(|record| state.replay(record).expect("a record that is accepted"));
     assert_eq!(state.next_height() as usize, (EPOCHS + 1) * HEADERS);
 }
 
 fn end_to_end(stream: &Timed, folder: &Path) -> io::Result<()> {
     let path = folder.join(stream.name).with_extension("records");
     fs::write(&path, stream.records.concat())?;
-    let replay = best(|| run("target/bin/replay", &[], &path));
-    let sha256sum = best(|| run("sha256sum", &[&path], &path));
-    println!(
-        "{}: replay {:.1} ms, sha256sum {:.1} ms, ratio {:.1}",
-        stream.name,
-        replay * 1e3,
-        sha256sum * 1e3,
-        sha256sum / replay
-    );
+    let [replay, sha] = [("target/bin/replay", vec![]), ("sha256sum", vec![&path])].map(|(program, arguments)| {
+        let seconds = best(|| run(program, &arguments, &path));
+        seconds * 1e3
+    });
+    println!("{}: replay {replay:.1} ms, sha256sum {sha:.1} ms, ratio {:.1}", stream.name, sha / replay);
     Ok(())
 }
 

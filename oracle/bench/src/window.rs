@@ -35,34 +35,35 @@ pub fn time() {
 }
 
 /// Both begin with the same full window.
-fn timed(length: usize, name: &str, voting: u64) {
+fn timed(length: usize, name: &str, voting: usize) {
     let headers = headers_alone(PUT, voting);
-    let (mut port, mut ring) = (Port::new(length), Ring::new(length));
+    let (mut ring, mut cells) = (Ring::new(length), vec![0; SUPPORTS + 3 * length]);
+    let mut window = ffi::ergo_window_new(length as u32, &mut cells);
+    let mut put = |votes: Votes| {
+        window = ffi::ergo_window_put(window as u64, &mut cells, &votes);
+        assert!(window >= 0);
+        cells[usize::from(FORK)]
+    };
     for &votes in &headers {
-        port.put(votes);
         ring.put(votes);
-        assert_eq!(port.support(FORK), ring.support(FORK));
+        assert_eq!(put(votes), ring.support(FORK));
     }
-    for (_, supports) in FORMS {
-        assert_eq!(port.cells[..SUPPORTS], supports(&ring));
-    }
-    let put = each(&headers, |votes| {
-        port.put(votes);
-        port.support(FORK)
-    });
-    println!("{name}, {length}: put {put:.1} ns a header");
+    let time = each(&headers, put);
+    println!("{name}, {length}: put {time:.1} ns a header");
     for (form, supports) in FORMS {
+        assert_eq!(cells[..SUPPORTS], supports(&ring));
         let all = each(&headers[..COUNTED], |votes| {
             ring.put(votes);
             black_box(&supports(&ring))[usize::from(FORK)]
         });
-        println!("  all ids afresh, {form}: {all:.0} ns, ratio {:.0}", all / put);
+        println!("  all ids afresh, {form}: {all:.0} ns, ratio {:.0}", all / time);
+        headers.iter().for_each(|&votes| ring.put(votes));
     }
     let one = each(&headers[..COUNTED], |votes| {
         ring.put(votes);
         ring.support(FORK)
     });
-    println!("  one id afresh: {one:.0} ns, ratio {:.1}", one / put);
+    println!("  one id afresh: {one:.0} ns, ratio {:.1}", one / time);
 }
 
 /// The time of a header, in nanoseconds.
@@ -73,30 +74,6 @@ fn each(headers: &[Votes], mut step: impl FnMut(Votes) -> u16) -> f64 {
         }
     });
     seconds * 1e9 / headers.len() as f64
-}
-
-/// The library's window.
-struct Port {
-    window: i64,
-    cells: Vec<u16>,
-}
-
-impl Port {
-    fn new(length: usize) -> Port {
-        let mut cells = vec![0; SUPPORTS + 3 * length];
-        let window = ffi::ergo_window_new(length as u32, &mut cells);
-        assert!(window >= 0);
-        Port { window, cells }
-    }
-
-    fn put(&mut self, votes: Votes) {
-        self.window = ffi::ergo_window_put(self.window as u64, &mut self.cells, &votes);
-        assert!(self.window >= 0);
-    }
-
-    fn support(&self, id: u8) -> u16 {
-        self.cells[usize::from(id)]
-    }
 }
 
 /// The last headers in memory, all of them legal: no test of votes is timed here, and no header has an id twice.

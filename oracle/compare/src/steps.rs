@@ -5,9 +5,9 @@ use std::collections::BTreeSet;
 
 use oracle::inputs::random::Random;
 use oracle::record::{read_record, HEADERS};
-use oracle::replay::{open, open_mainnet, State};
-use oracle::rules::Votes;
-use oracle::streams::build::{fields, Parts, Stream, UPDATE};
+use oracle::replay::{open, State};
+use oracle::rules::{fields, mainnet_table, Votes};
+use oracle::streams::build::{Parts, Stream, UPDATE};
 use oracle::table::{from_map, to_map, Map};
 use oracle::text::hex;
 
@@ -42,13 +42,13 @@ fn list(random: &mut Random, calls: usize, report: &mut Report, met: &mut BTreeS
     let mut stream = Stream::from_state(open(height, from_map(&beginning(random))).expect("an opening"));
     let mut before: Vec<Votes> = Vec::new();
     for _ in 0..calls {
-        let record = record(random, stream.state());
+        let record = record(random, &stream.state);
         report.compare(&stream.asked(&record));
-        let old = to_map(&stream.state().table);
+        let old = to_map(&stream.state.table);
         if stream.offer(&record).is_err() {
             continue;
         }
-        let new = to_map(&stream.state().table);
+        let new = to_map(&stream.state.table);
         for (id, value) in (1..=9).filter_map(|id| old.get(&id).map(|&value| (id, value))) {
             let said = moved(id, value, &before, met);
             report.count(new.get(&id) == Some(&said), || Difference {
@@ -84,7 +84,11 @@ fn moved(id: i8, value: i32, before: &[Votes], met: &mut BTreeSet<usize>) -> i32
 
 /// The headers that vote so, if the first one does.
 fn counted(vote: u8, headers: &[Votes]) -> usize {
-    if headers.first().is_some_and(|first| first.contains(&vote)) { voting(vote, headers) } else { 0 }
+    if headers.first().is_some_and(|first| first.contains(&vote)) {
+        voting(vote, headers)
+    } else {
+        0
+    }
 }
 
 fn voting(vote: u8, headers: &[Votes]) -> usize {
@@ -93,7 +97,7 @@ fn voting(vote: u8, headers: &[Votes]) -> usize {
 
 /// Mainnet's first table, with or without entry 9; in every second one the values stand near an end.
 fn beginning(random: &mut Random) -> Map {
-    let mut map = to_map(&open_mainnet().table);
+    let mut map = to_map(&mainnet_table());
     if random.one_in(2) {
         map.insert(9, 30);
     }
@@ -112,7 +116,7 @@ fn beginning(random: &mut Random) -> Map {
 fn record(random: &mut Random, state: &State) -> Vec<u8> {
     let votes = epoch(random, &to_map(&state.table));
     let computed = state.boundary(votes[0], &[]).unwrap_or_else(|_| state.table.clone());
-    let mut parts = Parts { height: state.next, fields: fields(&computed), votes };
+    let mut parts = Parts::new(state.next, fields(&computed), votes);
     match random.below(24) {
         0 => parts.height = parts.height.wrapping_add(1_024),
         1 => parts.fields[0].1 = random.bytes(4),

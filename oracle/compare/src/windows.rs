@@ -134,7 +134,11 @@ fn header(random: &mut Random) -> Votes {
 fn legal(random: &mut Random) -> Votes {
     let mut votes = [random.byte(), random.byte(), random.pick(&[0, 120])];
     votes.rotate_left(random.below(3));
-    if check(votes) == 0 { votes } else { legal(random) }
+    if check(votes) == 0 {
+        votes
+    } else {
+        legal(random)
+    }
 }
 
 /// Headers put into windows and cells that no call left, most of them of a few places; a header has now and then fewer bytes or more.

@@ -57,7 +57,7 @@ pub fn asked<'a>(body: &'a [u8], at: &'a [usize]) -> impl Iterator<Item = Call> 
 
 /// Where the fields of a body stand, if the Rust reads it.
 pub fn fields_at(body: &[u8]) -> Vec<usize> {
-    rules::parse_body(body).map_or(Vec::new(), |(_, fields)| places::fields(body, &fields))
+    rules::parse_body(body).map_or(Vec::new(), |fields| places::fields(body, &fields))
 }
 
 /// A body is asked with its fields, and one at any place; or every cut of it.

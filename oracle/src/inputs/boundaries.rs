@@ -1,30 +1,17 @@
 //! Boundaries: at random near rounds, and chosen ones that tell wrong orders and steps apart.
 
-use chain::voting::{self, VotingConfig};
-use ergo_lib::chain::parameters::Parameters;
+use chain::voting;
 
 use super::random::Random;
 use super::updates::{any, proposed};
 use super::voting::{near_round, settings, tally, vote};
 use crate::bytes::{question_bytes, tally_bytes};
 use crate::call::Call;
-use crate::replay::open_mainnet;
-use crate::rules::{self, Tally};
+use crate::rules::{self, Question, Tally};
 use crate::table::{from_map, to_map, Map};
 
-/// What a boundary is asked beside its tally and update.
-struct Question {
-    settings: VotingConfig,
-    height: u32,
-    table: Parameters,
-    fork_vote: bool,
-}
-
-impl Question {
-    fn asked(&self, tally: &[(i8, u32)], update: Vec<u8>) -> Call {
-        let question = question_bytes(&self.settings, self.height, &self.table, self.fork_vote);
-        Call::new("compute_boundary_parameters", [tally_bytes(tally), update, question])
-    }
+fn asked(question: &Question, tally: &[(i8, u32)], update: Vec<u8>) -> Call {
+    Call::new("compute_boundary_parameters", [tally_bytes(tally), update, question_bytes(question)])
 }
 
 /// Near a round of a tally made for the settings' length. Now and then the height is that of version 2.
@@ -41,17 +28,17 @@ fn at_boundary(random: &mut Random, make: fn(&mut Random, u32) -> Tally) -> (Que
 /// The update disables 409, or there is none.
 pub fn plain(random: &mut Random) -> Vec<Call> {
     let (question, tally) = at_boundary(random, tally);
-    vec![question.asked(&tally, if random.one_in(2) { disabling(&[409]) } else { Vec::new() })]
+    vec![asked(&question, &tally, if random.one_in(2) { disabling(&[409]) } else { Vec::new() })]
 }
 
 pub fn with_update(random: &mut Random) -> Vec<Call> {
     let (question, tally) = at_boundary(random, tally);
-    vec![question.asked(&tally, any(random))]
+    vec![asked(&question, &tally, any(random))]
 }
 
 pub fn over_list(random: &mut Random) -> Vec<Call> {
     let (question, tally) = at_boundary(random, entries);
-    vec![question.asked(&tally, proposed(random))]
+    vec![asked(&question, &tally, proposed(random))]
 }
 
 fn disabling(rules: &[u16]) -> Vec<u8> {
@@ -100,7 +87,7 @@ pub fn in_two_orders(random: &mut Random) -> [Call; 2] {
     let update = proposed(random);
     let mut other = tally.clone();
     (1..other.len()).for_each(|i| other.swap(i, random.below(i + 1)));
-    [tally, other].map(|tally| question.asked(&tally, update.clone()))
+    [tally, other].map(|tally| asked(&question, &tally, update.clone()))
 }
 
 /// Mainnet's first height of a round.
@@ -112,7 +99,7 @@ const ENOUGH: u32 = 513;
 
 /// A boundary of mainnet so many epochs after its round opened, with 29,492 votes and these entries.
 fn after(epochs: u32, entries: &[(i8, i32)]) -> Question {
-    let mut map: Map = to_map(&open_mainnet().table);
+    let mut map: Map = to_map(&rules::mainnet_table());
     map.extend([(121, 29_492), (122, START as i32)]);
     map.extend(entries.iter().copied());
     Question { settings: rules::mainnet(), height: START + EPOCH * epochs, table: from_map(&map), fork_vote: false }
@@ -120,7 +107,7 @@ fn after(epochs: u32, entries: &[(i8, i32)]) -> Question {
 
 /// Mainnet where the round raises the version, so that the update is activated.
 pub fn rising(tally: &[(i8, u32)], update: Vec<u8>) -> Call {
-    after(64, &[]).asked(tally, update)
+    asked(&after(64, &[]), tally, update)
 }
 
 /// Chosen boundaries of mainnet: each of them is answered otherwise where one rule is another.
@@ -133,10 +120,10 @@ fn rounds() -> Vec<Call> {
     let mut calls = Vec::new();
     for epochs in [1, 32, 33, 34, 64, 65] {
         for (total, fork_vote) in [(29_491, false), (29_491, true), (29_492, false), (29_492, true)] {
-            calls.push(Question { fork_vote, ..after(epochs, &[(121, total)]) }.asked(&[], Vec::new()));
+            calls.push(asked(&Question { fork_vote, ..after(epochs, &[(121, total)]) }, &[], Vec::new()));
         }
     }
-    calls.extend([1, 33, 64].map(|epochs| after(epochs, &[(121, i32::MAX)]).asked(&[(120, 1)], Vec::new())));
+    calls.extend([1, 33, 64].map(|epochs| asked(&after(epochs, &[(121, i32::MAX)]), &[(120, 1)], Vec::new())));
     calls
 }
 
@@ -146,9 +133,9 @@ fn versions() -> Vec<Call> {
     for version in [-1, 0, 1, 2, i32::MAX] {
         for epochs in [63, 64] {
             let plain = after(epochs, &[(123, version)]);
-            let mut forced = after(epochs, &[(123, version)]);
+            let mut forced = plain.clone();
             forced.settings.version2_activation_height = forced.height;
-            calls.extend([plain.asked(&[], Vec::new()), forced.asked(&[], Vec::new())]);
+            calls.extend([asked(&plain, &[], Vec::new()), asked(&forced, &[], Vec::new())]);
         }
     }
     calls
@@ -159,11 +146,11 @@ fn subblocks() -> Vec<Call> {
     let mut calls = Vec::new();
     for (epochs, version) in [(63, 4), (64, 3), (64, 4), (63, 3)] {
         for rules in [&[][..], &[409], &[215, 409], &[215]] {
-            calls.push(after(epochs, &[(123, version)]).asked(&[], disabling(rules)));
+            calls.push(asked(&after(epochs, &[(123, version)]), &[], disabling(rules)));
         }
         for vote in [9, -9] {
-            calls.push(after(epochs, &[(123, version)]).asked(&[(vote, ENOUGH)], Vec::new()));
-            calls.push(after(epochs, &[(123, version), (9, 30)]).asked(&[(vote, ENOUGH)], Vec::new()));
+            calls.push(asked(&after(epochs, &[(123, version)]), &[(vote, ENOUGH)], Vec::new()));
+            calls.push(asked(&after(epochs, &[(123, version), (9, 30)]), &[(vote, ENOUGH)], Vec::new()));
         }
     }
     calls
@@ -174,7 +161,7 @@ fn steps() -> Vec<Call> {
     let mut calls = Vec::new();
     for id in 1..=9 {
         let [least, greatest] = [voting::parameter_min(id), voting::parameter_max(id)].map(|limit| limit.expect("a limit"));
-        let moved = |value, vote, count| after(40, &[(id, value)]).asked(&[(vote, count)], Vec::new());
+        let moved = |value, vote, count| asked(&after(40, &[(id, value)]), &[(vote, count)], Vec::new());
         calls.extend([least, least + 1, greatest].map(|value| moved(value, -id, ENOUGH)));
         calls.extend([least, greatest - 1, greatest].map(|value| moved(value, id, ENOUGH)));
         calls.extend([moved(199, id, ENOUGH), moved(300, id, ENOUGH), moved(300, -id, ENOUGH), moved(300, id, ENOUGH - 1)]);

@@ -1,8 +1,5 @@
 //! Records on states, streams of them, openings and lines.
 
-use chain::Network;
-use ergo_lib::chain::parameters::{Parameter, Parameters};
-
 use super::bodies;
 use super::damage::damage;
 use super::random::Random;
@@ -12,9 +9,9 @@ use crate::bytes::table_bytes;
 use crate::call::Call;
 use crate::record::HEADERS;
 use crate::replay::State;
-use crate::rules::{self, Votes};
+use crate::rules::{self, fields, Votes};
 use crate::streams::accepted::{voted_enough, voted_too_few};
-use crate::streams::build::{fields, headers as epoch_votes, with_header, Parts, Stream, FORK, QUIET, UPDATE};
+use crate::streams::build::{headers as epoch_votes, Parts, Stream, FORK, QUIET};
 
 /// Legal votes: none, one that is for the fork or not, or two and the fork.
 fn legal(random: &mut Random) -> Votes {
@@ -31,38 +28,36 @@ fn legal(random: &mut Random) -> Votes {
 }
 
 /// The votes of an epoch: so many headers vote alike, near an edge; the others do not vote, or vote otherwise.
-pub fn epoch(random: &mut Random) -> Vec<Votes> {
-    let first = legal(random);
+fn epoch(random: &mut Random) -> Vec<Votes> {
     let count = random.pick(&[1, 2, 511, 512, 513, 819, 820, 1_023, 1_024]);
-    let rest = legal(random);
-    let groups = [(count, first), (if random.one_in(2) { HEADERS - count } else { 0 }, rest)];
-    let mut epoch = epoch_votes(&groups);
+    let rest = if random.one_in(2) { HEADERS - count } else { 0 };
+    let mut epoch = epoch_votes(&[(count, legal(random)), (rest, legal(random))]);
     if random.one_in(12) {
-        epoch = with_header(epoch, random.below(HEADERS), votes(random));
+        epoch[random.below(HEADERS)] = votes(random);
     }
     epoch
 }
 
-/// A record on a state whose body carries the table that is computed, if one is.
-pub fn record(random: &mut Random, state: &State) -> Vec<u8> {
+/// A record on a state whose body carries the table that is computed, if one is. Now and then one thing of it is another.
+fn record(random: &mut Random, state: &State) -> Vec<u8> {
     let votes = epoch(random);
     let update = if random.one_in(3) { updates::update(random) } else { Vec::new() };
     let computed = state.boundary(votes[0], &update).unwrap_or_else(|_| state.table.clone());
-    let mut parts = Parts { height: state.next, fields: fields(&computed), votes };
+    let mut parts = Parts::new(state.next, fields(&computed), votes);
     if !update.is_empty() && update.len() <= 64 {
-        parts.fields.push((UPDATE, update));
+        parts = parts.with_update(&update);
     }
     if random.one_in(8) {
-        parts = spoiled(random, parts);
+        spoil(random, &mut parts);
     }
     if random.one_in(12) {
-        return with_other_body(random, &parts);
+        let body = if random.one_in(2) { bodies::body(random) } else { parts.body() };
+        parts = parts.with_body(&if random.one_in(4) { body } else { damage(random, body) });
     }
     parts.bytes()
 }
 
-/// One thing of the parts is another.
-fn spoiled(random: &mut Random, mut parts: Parts) -> Parts {
+fn spoil(random: &mut Random, parts: &mut Parts) {
     let at = random.below(parts.fields.len().max(1));
     match random.below(5) {
         0 => parts.height = random.pick(&[0, parts.height.wrapping_add(1_024), parts.height.wrapping_sub(1_024)]),
@@ -71,43 +66,29 @@ fn spoiled(random: &mut Random, mut parts: Parts) -> Parts {
         3 => parts.fields.push(([0, random.byte()], random.bytes(4))),
         _ => parts.fields.rotate_left(at),
     }
-    parts
 }
 
-fn with_other_body(random: &mut Random, parts: &Parts) -> Vec<u8> {
-    let body = if random.one_in(2) { bodies::body(random) } else { parts.body() };
-    let body = if random.one_in(4) { body } else { damage(random, body) };
-    parts.bytes_with_body(&body)
-}
-
-/// A state in or out of a round, at a height of an epoch.
+/// A state in or out of a round, at a height of an epoch. Most have mainnet's ordinary entries, so that fewer votes are refused.
 fn state(random: &mut Random) -> State {
     let mainnet = rules::mainnet();
     let tally = tally(random, mainnet.voting_length);
     let (mut table, height) = near_round(random, &mainnet, &tally);
     if !random.one_in(4) {
-        table = with_ordinary_defaults(table);
+        table.parameters_table.retain(|entry, _| *entry as i8 > 9);
+        let ordinary = rules::mainnet_table().parameters_table.into_iter().filter(|(entry, _)| *entry as i8 <= 9);
+        table.parameters_table.extend(ordinary);
     }
     let next = if random.one_in(8) { random.number() } else { height / 1_024 * 1_024 };
     let next = if random.one_in(8) { mainnet.version2_activation_height } else { next };
     State { next: next.min(1 << 31), table, tally }
 }
 
-/// The ordinary entries of mainnet, so that fewer votes are refused.
-fn with_ordinary_defaults(table: Parameters) -> Parameters {
-    let mut all = rules::default_parameters(Network::Mainnet);
-    all.parameters_table.remove(&Parameter::BlockVersion);
-    let kept = table.parameters_table.into_iter().filter(|(entry, _)| *entry as i8 > 9);
-    all.parameters_table.extend(kept);
-    all
-}
-
 /// Some epochs one after another, each record whole and damaged.
 pub fn replays(random: &mut Random) -> Vec<Call> {
-    let mut stream = if random.one_in(3) { Stream::new() } else { Stream::from_state(state(random)) };
+    let mut stream = if random.one_in(3) { Stream::mainnet() } else { Stream::from_state(state(random)) };
     let mut calls = Vec::new();
     for _ in 0..8 {
-        let record = record(random, stream.state());
+        let record = record(random, &stream.state);
         calls.push(stream.asked(&record));
         if random.one_in(3) {
             calls.push(stream.asked(&damage(random, record.clone())));
@@ -123,10 +104,10 @@ pub fn stream(random: &mut Random) -> Vec<u8> {
     let mut stream = match random.below(4) {
         0 => voted_enough([0, 0]),
         1 => voted_too_few(),
-        _ => Stream::new(),
+        _ => Stream::mainnet(),
     };
     for _ in 0..random.pick(&[0, 1, 2, 5, 40, 75]) {
-        let record = record(random, stream.state());
+        let record = record(random, &stream.state);
         if stream.offer(&record).is_err() && random.one_in(10) {
             stream.bytes.extend(record);
             break;

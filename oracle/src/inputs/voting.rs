@@ -1,7 +1,6 @@
 //! Votes, settings, tables and rounds, and the calls on them.
 
 use chain::voting::VotingConfig;
-use chain::Network;
 use ergo_lib::chain::parameters::{Parameter, Parameters};
 
 use super::random::Random;
@@ -66,7 +65,7 @@ pub fn any_table(random: &mut Random) -> Parameters {
 
 /// A table with a round near a height's edges: what is put into 121 and 122, and the height.
 pub fn near_round(random: &mut Random, settings: &VotingConfig, tally: &[(i8, u32)]) -> (Parameters, u32) {
-    let mut table = if random.one_in(4) { rules::default_parameters(Network::Mainnet) } else { any_table(random) };
+    let mut table = if random.one_in(4) { rules::mainnet_table() } else { any_table(random) };
     let (length, voted, activation) = (settings.voting_length, settings.soft_fork_epochs, settings.activation_epochs);
     let start = random.pick(&[0, length, length.wrapping_mul(3), 1_024, 2_147_482_624]);
     let start = if random.one_in(5) { random.number() } else { start };

@@ -1,16 +1,14 @@
 //! Records and streams made of them. Bodies carry the table that the oracle computes.
 
 use chain::voting::ExtensionField;
-use ergo_lib::chain::parameters::Parameters;
 
-use crate::answers::{first_votes, state_bytes};
+use crate::answers::state_bytes;
 use crate::bytes::IN_ORDER;
 use crate::call::Call;
-use crate::record::{write_field, HEADERS};
+use crate::record::{first_votes, write_field, HEADERS};
 use crate::refusal::Refusal;
 use crate::replay::{open_mainnet, State};
-use crate::rules::{self, Tally, Votes};
-use crate::table;
+use crate::rules::{fields, pack_body, Tally, Votes};
 
 pub const QUIET: Votes = [0, 0, 0];
 pub const FORK: Votes = [120, 0, 0];
@@ -18,36 +16,47 @@ pub const FORK: Votes = [120, 0, 0];
 /// The key of the proposed update.
 pub const UPDATE: [u8; 2] = [0, 124];
 
-/// The votes of an epoch: groups of equal headers in order, and quiet ones up to 1,024.
-pub fn headers(groups: &[(usize, Votes)]) -> Vec<Votes> {
+/// Groups of equal headers.
+pub type Groups<'a> = &'a [(usize, Votes)];
+
+/// The votes of an epoch: groups in order, and quiet headers up to 1,024.
+pub fn headers(groups: Groups) -> Vec<Votes> {
     let mut votes: Vec<Votes> = groups.iter().flat_map(|&(count, votes)| vec![votes; count]).collect();
     assert!(votes.len() <= HEADERS);
     votes.resize(HEADERS, QUIET);
     votes
 }
 
-/// The votes with one header's replaced.
-pub fn with_header(mut votes: Vec<Votes>, index: usize, header: Votes) -> Vec<Votes> {
-    votes[index] = header;
-    votes
-}
-
-/// The parts of a record before they become bytes.
+/// The parts of a record before they become bytes. The body is that of the fields where there is no other.
 #[derive(Clone)]
 pub struct Parts {
     pub height: u32,
     pub fields: Vec<ExtensionField>,
     pub votes: Vec<Votes>,
+    pub other_body: Option<Vec<u8>>,
 }
 
 impl Parts {
+    pub fn new(height: u32, fields: Vec<ExtensionField>, votes: Vec<Votes>) -> Parts {
+        Parts { height, fields, votes, other_body: None }
+    }
+
     pub fn with_height(self, height: u32) -> Parts {
         Parts { height, ..self }
     }
 
-    pub fn with_update(mut self, update: &[u8]) -> Parts {
-        self.fields.push((UPDATE, update.to_vec()));
+    pub fn with_header(mut self, index: usize, votes: Votes) -> Parts {
+        self.votes[index] = votes;
         self
+    }
+
+    pub fn with_field(mut self, key: [u8; 2], value: &[u8]) -> Parts {
+        self.fields.push((key, value.to_vec()));
+        self
+    }
+
+    pub fn with_update(self, update: &[u8]) -> Parts {
+        self.with_field(UPDATE, update)
     }
 
     /// With the value of a parameter replaced.
@@ -62,33 +71,37 @@ impl Parts {
         self
     }
 
-    /// The id of the body: the height, eight times over.
-    pub fn id(&self) -> [u8; 32] {
-        self.height.to_be_bytes().repeat(8).try_into().expect("32 bytes")
+    pub fn with_body(self, body: &[u8]) -> Parts {
+        Parts { other_body: Some(body.to_vec()), ..self }
     }
 
+    /// With other bytes for the number of fields, and with bytes after the last field.
+    pub fn with_count(self, count: &[u8], after: &[u8]) -> Parts {
+        let body = self.body();
+        self.with_body(&[&body[..32], count, &body[33..], after].concat())
+    }
+
+    /// As many fields as there are and so many more, and bytes after the last one.
+    pub fn with_more(self, more: usize, after: &[u8]) -> Parts {
+        let count = (self.fields.len() + more) as u8;
+        self.with_count(&[count], after)
+    }
+
+    /// The id is the height, eight times over.
     pub fn body(&self) -> Vec<u8> {
-        rules::pack_body(self.id(), &self.fields).expect("a body that can be written")
-    }
-
-    /// The body with other bytes for the number of fields, and with bytes after the last field.
-    pub fn body_with(&self, count: &[u8], after: &[u8]) -> Vec<u8> {
-        assert!(self.fields.len() < 128, "the number of fields has one byte");
-        [&self.id(), count, &self.body()[33..], after].concat()
+        let id = self.height.to_be_bytes().repeat(8).try_into().expect("32 bytes");
+        let packed = || pack_body(id, &self.fields).expect("a body that can be written");
+        self.other_body.clone().unwrap_or_else(packed)
     }
 
     /// The three fields of the record.
-    pub fn record_fields(&self, body: &[u8]) -> [Vec<u8>; 3] {
+    pub fn record_fields(&self) -> [Vec<u8>; 3] {
         let height = write_field(1, &self.height.to_be_bytes());
-        [height, write_field(2, body), write_field(3, self.votes.as_flattened())]
-    }
-
-    pub fn bytes_with_body(&self, body: &[u8]) -> Vec<u8> {
-        self.record_fields(body).concat()
+        [height, write_field(2, &self.body()), write_field(3, self.votes.as_flattened())]
     }
 
     pub fn bytes(&self) -> Vec<u8> {
-        self.bytes_with_body(&self.body())
+        self.record_fields().concat()
     }
 }
 
@@ -97,57 +110,44 @@ impl Parts {
 pub struct Stream {
     pub bytes: Vec<u8>,
     pub accepted: usize,
-    state: State,
+    pub state: State,
     seed: Votes,
 }
 
-impl Default for Stream {
-    fn default() -> Stream {
-        Stream::new()
-    }
-}
-
 impl Stream {
-    pub fn new() -> Stream {
-        Stream::from_state(open_mainnet())
-    }
-
     pub fn from_state(state: State) -> Stream {
         Stream { bytes: Vec::new(), accepted: 0, state, seed: IN_ORDER }
     }
 
-    /// The state after the accepted records.
-    pub fn state(&self) -> &State {
-        &self.state
+    pub fn mainnet() -> Stream {
+        Stream::from_state(open_mainnet())
     }
 
-    /// The replay of a record on that state.
+    /// The replay of a record on the state.
     pub fn asked(&self, record: &[u8]) -> Call {
         Call::new("replay", [state_bytes(&self.state, self.seed), record.to_vec()])
     }
 
     /// A record that is accepted next with these votes, if one is.
     pub fn next(&self, votes: Vec<Votes>) -> Parts {
-        parts(&self.state, votes)
+        let computed = self.state.boundary(votes[0], &[]).expect("a boundary that is not refused");
+        Parts::new(self.state.next, fields(&computed), votes)
+    }
+
+    /// The next record, with quiet headers.
+    pub fn quiet(&self) -> Parts {
+        self.next(headers(&[]))
     }
 
     /// The same, as if the epoch before had no votes.
-    pub fn next_untallied(&self, votes: Vec<Votes>) -> Parts {
-        parts(&State { tally: Tally::new(), ..self.state.clone() }, votes)
+    pub fn untallied(&self) -> Parts {
+        Stream::from_state(State { tally: Tally::new(), ..self.state.clone() }).quiet()
     }
 
-    /// The fields of the table as it stands, before the next boundary.
-    pub fn old_fields(&self) -> Vec<ExtensionField> {
-        fields(&self.state.table)
-    }
-
-    /// Adds an epoch that is accepted.
-    pub fn epoch(&mut self, votes: Vec<Votes>) {
-        self.accept(&self.next(votes).bytes());
-    }
-
-    pub fn epochs(&mut self, count: usize, votes: &[Votes]) {
-        (0..count).for_each(|_| self.epoch(votes.to_vec()));
+    /// Adds epochs that are accepted.
+    pub fn then(mut self, epochs: &[Groups]) -> Stream {
+        epochs.iter().for_each(|groups| self.accept(&self.next(headers(groups)).bytes()));
+        self
     }
 
     /// Adds a record that is accepted.
@@ -163,14 +163,4 @@ impl Stream {
         self.bytes.extend(record);
         Ok(())
     }
-}
-
-fn parts(state: &State, votes: Vec<Votes>) -> Parts {
-    let computed = state.boundary(votes[0], &[]).expect("a boundary that is not refused");
-    Parts { height: state.next, fields: fields(&computed), votes }
-}
-
-/// The fields that carry a table.
-pub fn fields(table: &Parameters) -> Vec<ExtensionField> {
-    rules::pack_parameters(&table::to_map(table))
 }

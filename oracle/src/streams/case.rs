@@ -1,6 +1,6 @@
 //! A stream with what must be printed for it.
 
-use super::build::{headers, Stream};
+use super::build::Stream;
 use crate::replay::replay_stream;
 
 /// A stream, and what its last line must say.
@@ -23,13 +23,10 @@ impl Case {
 
 /// A quiet epoch under wrong lines, which must differ: another version, no last line, a line too many.
 pub fn wrong() -> [(&'static str, String, Vec<u8>); 3] {
-    let records = Stream::new().next(headers(&[])).bytes();
+    let records = Stream::mainnet().quiet().bytes();
     let lines = replay_stream(&records);
-    let (start, end) = lines.split_at(lines.rfind("end").expect("a last line"));
-    let wrong = [
-        ("wrong", lines.replace("1024 1", "1024 2")),
-        ("wrong_short", start.to_owned()),
-        ("wrong_long", format!("{start}2048 1 - -\n{end}")),
-    ];
+    let long = lines.replace("end", "2048 1 - -\nend");
+    let wrong =
+        [("wrong", lines.replace("1024 1", "1024 2")), ("wrong_short", lines.replace("end 1 0\n", "")), ("wrong_long", long)];
     wrong.map(|(name, lines)| (name, lines, records.clone()))
 }
