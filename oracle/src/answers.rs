@@ -56,10 +56,10 @@ pub fn answer(call: &Call) -> Given {
             let rule = a(0).u32().try_into().map_err(|_| Gap::NoCounterpart)?;
             accepted(vec![rules::mandatory(rule).into()])
         }
-        "pack_extension_bytes" => told(rules::pack_body(a(0).array(), &listed_fields(bytes(1))?), whole),
+        "pack_extension_bytes" => told(rules::pack_body(a(0).array(), &listed_fields(bytes(1))?), Vec::from),
         "pack_parameters_to_kv" => accepted(field_bytes(&voting::pack_parameters_to_kv(&a(0).map()))),
-        "encode_validation_settings_update" => told(rules::encode_update(&listed_update(call)?), whole),
-        "encode_disabled_rules" => told(rules::encode_rules(&a(0).items(u16::from_be_bytes)), whole),
+        "encode_validation_settings_update" => told(rules::encode_update(&listed_update(call)?), Vec::from),
+        "encode_disabled_rules" => told(rules::encode_rules(&a(0).items(u16::from_be_bytes)), Vec::from),
         "open" => told(replay::open(a(0).u32(), a(1).table()), |state| state_bytes(&state, IN_ORDER)),
         "replay" => replayed(a(0), bytes(1)),
         "write_head" => accepted(replay::HEAD_LINE.into()),
@@ -84,10 +84,6 @@ fn told<T>(result: Result<T, Refusal>, bytes: impl FnOnce(T) -> Vec<u8>) -> Give
 
 fn nothing<T>(_: T) -> Vec<u8> {
     Vec::new()
-}
-
-fn whole(bytes: Vec<u8>) -> Vec<u8> {
-    bytes
 }
 
 /// Later heights aren't read: they rise by one.

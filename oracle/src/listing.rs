@@ -2,22 +2,15 @@
 
 use std::io::{self, Write};
 
-use crate::rules::{self, Votes};
+use crate::rules::{check_header, Votes};
 
-/// Numbers of 24 bits are below.
-pub const TOTAL: u32 = 1 << 24;
-
-/// The three bytes of a number.
-pub fn votes_of(number: u32) -> Votes {
-    let [_, votes @ ..] = number.to_be_bytes();
-    votes
+/// Every header, in rising order of its number.
+pub fn all() -> impl DoubleEndedIterator<Item = Votes> {
+    (0..1u32 << 24).map(|number| *number.to_be_bytes().last_chunk().expect("three bytes"))
 }
 
-pub fn accepts(votes: Votes) -> bool {
-    rules::check_header(votes).is_ok()
-}
-
-/// Writes the numbers that are accepted, in rising order, a number a line.
+/// Writes the numbers of those that are accepted, a number a line.
 pub fn write(out: &mut impl Write) -> io::Result<()> {
-    (0..TOTAL).filter(|&number| accepts(votes_of(number))).try_for_each(|number| writeln!(out, "{number}"))
+    let number = |[a, b, c]: Votes| u32::from_be_bytes([0, a, b, c]);
+    all().filter(|&votes| check_header(votes).is_ok()).try_for_each(|votes| writeln!(out, "{}", number(votes)))
 }

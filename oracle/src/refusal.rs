@@ -47,22 +47,19 @@ pub const ERRORS: [(&str, &str, &str, u8); 21] = [
     ("Voting", "settings update encode: status update rule id ", " is below FIRST_RULE_ID ", 23),
 ];
 
-/// The number of the first row that fits. An error without a row ends the run: nothing is guessed.
-fn number(variant: &str, text: &str) -> u8 {
+/// The refusal of the first row that fits. An error without a row ends the run: nothing is guessed.
+fn by_error(variant: &str, text: &str) -> Refusal {
     let fits = |row: &&(&str, &str, &str, u8)| row.0 == variant && text.starts_with(row.1) && text.contains(row.2);
-    match ERRORS.iter().find(fits) {
-        Some(row) => row.3,
-        None => panic!("no number for {variant}: {text}"),
-    }
+    by_number(ERRORS.iter().find(fits).unwrap_or_else(|| panic!("no number for {variant}: {text}")).3)
 }
 
 impl From<ChainError> for Refusal {
     fn from(error: ChainError) -> Refusal {
-        by_number(match &error {
-            ChainError::ExtensionParse(text) => number("ExtensionParse", text),
-            ChainError::Voting(text) => number("Voting", text),
+        match &error {
+            ChainError::ExtensionParse(text) => by_error("ExtensionParse", text),
+            ChainError::Voting(text) => by_error("Voting", text),
             other => panic!("no number for {other:?}"),
-        })
+        }
     }
 }
 
@@ -70,10 +67,10 @@ impl From<ValidationError> for Refusal {
     fn from(error: ValidationError) -> Refusal {
         match &error {
             ValidationError::ParameterMismatch { expected, actual, .. } => {
-                Refusal { number: number("ParameterMismatch", ""), ids: table::differing(expected, actual) }
+                Refusal { ids: table::differing(expected, actual), ..by_error("ParameterMismatch", "") }
             }
-            ValidationError::BlockVersionMismatch { .. } => by_number(number("BlockVersionMismatch", "")),
-            ValidationError::StateOperationFailed(text) => by_number(number("StateOperationFailed", text)),
+            ValidationError::BlockVersionMismatch { .. } => by_error("BlockVersionMismatch", ""),
+            ValidationError::StateOperationFailed(text) => by_error("StateOperationFailed", text),
             other => panic!("no number for {other:?}"),
         }
     }

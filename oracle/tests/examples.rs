@@ -1,8 +1,7 @@
-//! Examples that no row says: a year's steps, a tally's order, the ends of replays and of streams, and what a row is.
+//! Examples that no row says: a year's steps, the ends of replays and of streams, and what a row is.
 
 use std::collections::BTreeSet;
 
-use chain::voting::VotingConfig;
 use ergo_lib::chain::parameters::Parameters;
 use oracle::call::{Answer, Call};
 use oracle::refusal::Refusal;
@@ -31,17 +30,6 @@ fn year_of_steps() {
     };
     let year = |vote| (0..257).fold(1_000_000, |value, _| moved(value, vote));
     assert_eq!([year(4), year(-4)], [12_899_538, 75_599]);
-}
-
-/// docs/RULES.md, "In another order": where it matters.
-#[test]
-fn order_of_entries() {
-    let settings = VotingConfig { voting_length: 1, soft_fork_epochs: 1, activation_epochs: 1, version2_activation_height: 0 };
-    let question = Question { settings, height: 1, table: table(&[(1, 2_500_000), (123, 1)]), fork_vote: false };
-    let ask = |ids: [i8; 2]| rules::boundary(&question, &ids.map(|id| (id, 1)), &[]);
-    let first = |ids| ask(ids).map(|(new, _)| to_map(&new)[&1]);
-    assert_eq!([first([-1, 1]), first([1, -1])], [Ok(2_500_000), Ok(2_475_000)]);
-    assert_eq!([number(ask([10, 2])), number(ask([2, 10]))], [13, 14]);
 }
 
 #[test]

@@ -5,19 +5,20 @@ use oracle::bytes::numbers;
 use oracle::call::Call;
 use oracle::inputs::random::Random;
 use oracle::inputs::{bodies, updates};
-use oracle::listing::{accepts, votes_of, TOTAL};
+use oracle::listing;
+use oracle::rules::check_header;
 use oracle::text::hex;
 
 use crate::report::{Difference, Report};
 
 pub fn all_headers(report: &mut Report, _: &mut Random) {
-    (0..TOTAL).for_each(|number| report.compare(&Call::new("check_header_votes", [votes_of(number).to_vec()])));
+    listing::all().for_each(|votes| report.compare(&Call::new("check_header_votes", [votes.to_vec()])));
 }
 
 /// From the last header down: the next one is the last that the Rust accepted on the way. It is lent three cells, more, and too few.
 pub fn next_headers(report: &mut Report, _: &mut Random) {
     let mut next: Vec<u8> = Vec::new();
-    for votes in (0..TOTAL).rev().map(votes_of) {
+    for votes in listing::all().rev() {
         let asked = [next.len(), next.len() + 3].map(|length| {
             let mut cells = vec![0xee; length];
             (ergo_next_legal_votes(&votes, &mut cells), cells)
@@ -30,7 +31,7 @@ pub fn next_headers(report: &mut Report, _: &mut Random) {
             rust: hex(&next),
             library: format!("{asked:?}, in two cells 21: {short}"),
         });
-        if accepts(votes) {
+        if check_header(votes).is_ok() {
             next = votes.to_vec();
         }
     }

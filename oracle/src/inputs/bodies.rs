@@ -3,7 +3,6 @@
 use chain::voting::ExtensionField;
 use ergo_lib::chain::parameters::Parameters;
 
-use super::damage::damaged;
 use super::random::Random;
 use super::updates;
 use super::voting::any_table;
@@ -63,7 +62,7 @@ pub fn fields_at(body: &[u8]) -> Vec<usize> {
 /// A body is asked with its fields, and one at any place; or every cut of it.
 pub fn make(random: &mut Random) -> Vec<Call> {
     let body = body(random);
-    let body = damaged(random, body);
+    let body = random.damaged(body);
     if random.one_in(50) {
         return (0..=body.len()).map(|size| Call::new("check_body", [body[..size].to_vec()])).collect();
     }

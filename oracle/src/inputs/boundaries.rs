@@ -1,6 +1,7 @@
 //! Boundaries: at random near rounds, and chosen ones that tell wrong orders and steps apart.
 
 use chain::voting;
+use ergo_lib::chain::parameters::Parameter;
 
 use super::random::Random;
 use super::updates::{any, proposed};
@@ -112,7 +113,15 @@ pub fn rising(tally: &[(i8, u32)], update: Vec<u8>) -> Call {
 
 /// Chosen boundaries of mainnet: each of them is answered otherwise where one rule is another.
 pub fn chosen() -> Vec<Call> {
-    [rounds(), versions(), subblocks(), steps()].concat()
+    [rounds(), versions(), subblocks(), steps(), orders()].concat()
+}
+
+/// docs/RULES.md, "In another order": where it matters, with parameter 1 at its greatest value and no parameter 2.
+fn orders() -> Vec<Call> {
+    let mut question = after(1, &[(1, 2_500_000)]);
+    question.table.parameters_table.remove(&Parameter::MinValuePerByte);
+    let tally = |(first, second)| asked(&question, &[(first, ENOUGH), (second, ENOUGH)], Vec::new());
+    [(-1, 1), (1, -1), (10, 2), (2, 10)].map(tally).into()
 }
 
 /// All that happens to a round, approved or not, with and without a vote for the next one; and a total that wraps.

@@ -2,7 +2,6 @@
 
 pub mod bodies;
 pub mod boundaries;
-mod damage;
 pub mod random;
 pub mod records;
 pub mod updates;

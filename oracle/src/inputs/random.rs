@@ -73,4 +73,26 @@ impl Random {
         }
         bytes
     }
+
+    /// The bytes as they are, or with one thing wrong.
+    pub fn damaged(&mut self, bytes: Vec<u8>) -> Vec<u8> {
+        match self.one_in(3) {
+            true => bytes,
+            false => self.damage(bytes),
+        }
+    }
+
+    pub fn damage(&mut self, mut bytes: Vec<u8>) -> Vec<u8> {
+        let at = self.below(bytes.len() + 1);
+        match self.below(6) {
+            0 => bytes.truncate(at),
+            1 => bytes.insert(at, self.byte()),
+            2 => bytes.insert(at, self.pick(&[0, 1, 0x7f, 0x80, 0xff])),
+            _ if at == bytes.len() => bytes.push(self.byte()),
+            3 => drop(bytes.remove(at)),
+            4 => bytes[at] = self.byte(),
+            _ => bytes[at] ^= 1 << self.below(8),
+        }
+        bytes
+    }
 }

@@ -1,7 +1,6 @@
 //! Records on states, streams of them, openings and lines.
 
 use super::bodies;
-use super::damage::damage;
 use super::random::Random;
 use super::updates;
 use super::voting::{any_table, near_round, tally, vote, votes};
@@ -52,7 +51,7 @@ fn record(random: &mut Random, state: &State) -> Vec<u8> {
     }
     if random.one_in(12) {
         let body = if random.one_in(2) { bodies::body(random) } else { parts.body() };
-        parts = parts.with_body(&if random.one_in(4) { body } else { damage(random, body) });
+        parts = parts.with_body(&if random.one_in(4) { body } else { random.damage(body) });
     }
     parts.bytes()
 }
@@ -91,7 +90,7 @@ pub fn replays(random: &mut Random) -> Vec<Call> {
         let record = record(random, &stream.state);
         calls.push(stream.asked(&record));
         if random.one_in(3) {
-            calls.push(stream.asked(&damage(random, record.clone())));
+            calls.push(stream.asked(&random.damage(record.clone())));
         }
         stream.offer(&record).ok();
     }
@@ -115,19 +114,15 @@ pub fn stream(random: &mut Random) -> Vec<u8> {
     }
     let mut bytes = stream.bytes;
     if random.one_in(2) {
-        let start = bytes.len().saturating_sub(3_300);
-        let end = damage(random, bytes[start..].to_vec());
-        bytes.truncate(start);
-        bytes.extend(end);
+        let end = bytes.split_off(bytes.len().saturating_sub(3_300));
+        bytes.extend(random.damage(end));
     }
     bytes
 }
 
 pub fn headers(random: &mut Random) -> Vec<Call> {
-    let count = random.pick(&[0, 1, 2, 5, 30]);
-    let spoiled = random.one_in(2);
-    let mut votes: Vec<u8> = (0..count).flat_map(|_| legal(random)).collect();
-    if spoiled && !votes.is_empty() {
+    let mut votes: Vec<u8> = (0..random.pick(&[0, 1, 2, 5, 30])).flat_map(|_| legal(random)).collect();
+    if random.one_in(2) && !votes.is_empty() {
         let at = random.below(votes.len());
         votes[at] = vote(random);
     }

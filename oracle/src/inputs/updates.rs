@@ -1,6 +1,5 @@
 //! Settings updates.
 
-use super::damage::damaged;
 use super::random::Random;
 use crate::bytes::numbers;
 use crate::call::Call;
@@ -58,7 +57,7 @@ pub fn proposed(random: &mut Random) -> Vec<u8> {
 /// An update that may be damaged.
 pub fn any(random: &mut Random) -> Vec<u8> {
     let update = update(random);
-    damaged(random, update)
+    random.damaged(update)
 }
 
 /// What an update is asked: its sections, and the rule and the status at each of these places.

@@ -90,30 +90,15 @@ fn changed(changes: &[&dyn Fn(Parts) -> Parts]) -> Stream {
 /// Bodies that are odd and are accepted: parameters and other fields that the table does not have; bytes after the last field; of two
 /// equal ids the later counts; the number of fields in ten bytes; fields in falling order; the longest body.
 fn bodies() -> Stream {
+    let more = [([0, 9], vec![0, 0, 0, 7]), ([0, 200], vec![1, 2, 3, 4]), ([1, 1], vec![]), ([2, 124], vec![9; 64])];
+    let count = |p: &Parts| [&[p.fields.len() as u8 | 0x80], &[0x80; 8][..], &[0x7e]].concat();
     changed(&[
-        &|p| {
-            p.with_field([0, 9], &[0, 0, 0, 7])
-                .with_field([0, 200], &[1, 2, 3, 4])
-                .with_field([1, 1], &[])
-                .with_field([2, 124], &[9; 64])
-        },
+        &|p| p.with(|p| p.fields.extend(more.clone())),
         &|p| p.with_more(0, &[0, 1, 4, 9]),
-        &|mut p| {
-            p.fields.insert(0, ([0, 1], vec![0; 4]));
-            p
-        },
-        &|p| {
-            let count = p.fields.len() as u8;
-            p.with_count(&[&[count | 0x80], &[0x80; 8][..], &[0x7e]].concat(), &[])
-        },
-        &|mut p| {
-            p.fields.reverse();
-            p
-        },
-        &|p| {
-            let size = p.body().len();
-            p.with_more(0, &vec![0xee; 32_768 - size])
-        },
+        &|p| p.with(|p| p.fields.insert(0, ([0, 1], vec![0; 4]))),
+        &|p| p.clone().with_count(&count(&p), &[]),
+        &|p| p.with(|p| p.fields.reverse()),
+        &|p| p.clone().with_more(0, &vec![0xee; 32_768 - p.body().len()]),
     ])
 }
 

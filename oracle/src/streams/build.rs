@@ -41,18 +41,21 @@ impl Parts {
         Parts { height, fields, votes, other_body: None }
     }
 
+    pub fn with(mut self, change: impl FnOnce(&mut Parts)) -> Parts {
+        change(&mut self);
+        self
+    }
+
     pub fn with_height(self, height: u32) -> Parts {
         Parts { height, ..self }
     }
 
-    pub fn with_header(mut self, index: usize, votes: Votes) -> Parts {
-        self.votes[index] = votes;
-        self
+    pub fn with_header(self, index: usize, votes: Votes) -> Parts {
+        self.with(|p| p.votes[index] = votes)
     }
 
-    pub fn with_field(mut self, key: [u8; 2], value: &[u8]) -> Parts {
-        self.fields.push((key, value.to_vec()));
-        self
+    pub fn with_field(self, key: [u8; 2], value: &[u8]) -> Parts {
+        self.with(|p| p.fields.push((key, value.to_vec())))
     }
 
     pub fn with_update(self, update: &[u8]) -> Parts {
@@ -60,15 +63,12 @@ impl Parts {
     }
 
     /// With the value of a parameter replaced.
-    pub fn with_value(mut self, id: u8, value: &[u8]) -> Parts {
-        let field = self.fields.iter_mut().find(|(key, _)| *key == [0, id]).expect("a parameter of the body");
-        field.1 = value.to_vec();
-        self
+    pub fn with_value(self, id: u8, value: &[u8]) -> Parts {
+        self.with(|p| p.fields.iter_mut().filter(|(key, _)| *key == [0, id]).for_each(|field| field.1 = value.to_vec()))
     }
 
-    pub fn without(mut self, id: u8) -> Parts {
-        self.fields.retain(|(key, _)| *key != [0, id]);
-        self
+    pub fn without(self, id: u8) -> Parts {
+        self.with(|p| p.fields.retain(|(key, _)| *key != [0, id]))
     }
 
     pub fn with_body(self, body: &[u8]) -> Parts {

@@ -36,17 +36,10 @@ impl Parameters {
         data_input_cost: i32,
         output_cost: i32,
     ) -> Self {
-        let parameters_table = BTreeMap::from([
-            (Parameter::StorageFeeFactor, storage_fee_factor),
-            (Parameter::MinValuePerByte, min_value_per_byte),
-            (Parameter::MaxBlockSize, max_block_size),
-            (Parameter::MaxBlockCost, max_block_cost),
-            (Parameter::TokenAccessCost, token_access_cost),
-            (Parameter::InputCost, input_cost),
-            (Parameter::DataInputCost, data_input_cost),
-            (Parameter::OutputCost, output_cost),
-            (Parameter::BlockVersion, block_version),
-        ]);
-        Parameters { parameters_table }
+        use Parameter::*;
+        let ordinary = [StorageFeeFactor, MinValuePerByte, MaxBlockSize, MaxBlockCost, TokenAccessCost, InputCost];
+        let values = [storage_fee_factor, min_value_per_byte, max_block_size, max_block_cost, token_access_cost, input_cost];
+        let last = [(DataInputCost, data_input_cost), (OutputCost, output_cost), (BlockVersion, block_version)];
+        Parameters { parameters_table: ordinary.into_iter().zip(values).chain(last).collect() }
     }
 }
