@@ -2,13 +2,11 @@
 
 use crate::call::{Answer, Call};
 
-const NONE: &str = "-";
-
 pub fn hex(bytes: &[u8]) -> String {
-    if bytes.is_empty() {
-        return NONE.to_owned();
+    match bytes {
+        [] => "-".to_owned(),
+        _ => bytes.iter().map(|byte| format!("{byte:02x}")).collect(),
     }
-    bytes.iter().map(|byte| format!("{byte:02x}")).collect()
 }
 
 /// The name and the arguments, a space before each argument.
@@ -33,16 +31,13 @@ pub fn read(line: &str, names: &[&'static str]) -> Option<(Call, Answer)> {
     let word = words.next()?;
     let name = *names.iter().find(|name| **name == word)?;
     let arguments = words.map(bytes).collect::<Option<_>>()?;
-    let (number, rest) = given.split_at_checked(2)?;
-    let bytes = if rest.is_empty() { Vec::new() } else { bytes(rest.strip_prefix(' ')?)? };
-    Some((Call { name, arguments }, Answer { number: number.parse().ok()?, bytes }))
+    let (number, told) = given.split_once(' ').map_or((given, Some(Vec::new())), |(number, word)| (number, bytes(word)));
+    let (call, answer) = (Call { name, arguments }, Answer { number: number.parse().ok()?, bytes: told? });
+    (row(&call, &answer).trim_end() == line).then_some((call, answer))
 }
 
+/// Of a word in form. Any other is written otherwise than it is read.
 fn bytes(word: &str) -> Option<Vec<u8>> {
-    if word == NONE {
-        return Some(Vec::new());
-    }
-    let digits: Vec<u8> = word.chars().map(|c| c.to_digit(16).map(|digit| digit as u8)).collect::<Option<_>>()?;
-    let pairs = digits.chunks_exact(2);
-    (!digits.is_empty() && pairs.remainder().is_empty()).then(|| pairs.map(|pair| 16 * pair[0] + pair[1]).collect())
+    let digits: Vec<u8> = word.trim_start_matches('-').chars().map(|c| Some(c.to_digit(16)? as u8)).collect::<Option<_>>()?;
+    Some(digits.chunks(2).map(|pair| pair.iter().fold(0, |byte, digit| 16 * byte + digit)).collect())
 }

@@ -11,11 +11,13 @@ mod writers;
 use crate::call::Call;
 use random::Random;
 
+pub type Make = fn(&mut Random) -> Vec<Call>;
+
 /// A kind of inputs, how many times it is made when the two sides are compared, and what makes some of it.
 pub struct Kind {
     pub name: &'static str,
     pub times: usize,
-    pub make: fn(&mut Random) -> Vec<Call>,
+    pub make: Make,
 }
 
 pub const KINDS: [Kind; 15] = [

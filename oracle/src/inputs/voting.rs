@@ -1,5 +1,7 @@
 //! Votes, settings, tables and rounds, and the calls on them.
 
+use std::collections::BTreeMap;
+
 use chain::voting::VotingConfig;
 use ergo_lib::chain::parameters::{Parameter, Parameters};
 
@@ -25,6 +27,10 @@ pub fn votes(random: &mut Random) -> Votes {
     [0; 3].map(|_| if random.one_in(2) { 0 } else { vote(random) })
 }
 
+pub fn headers(random: &mut Random) -> Vec<Call> {
+    vec![Call::new("check_header_votes", [votes(random).into()])]
+}
+
 pub fn settings(random: &mut Random) -> VotingConfig {
     let [voting_length, soft_fork_epochs, activation_epochs] = match random.below(8) {
         0 | 1 => [1_024, 32, 32],
@@ -43,24 +49,15 @@ fn threshold(settings: &VotingConfig) -> u32 {
     (u128::from(settings.voting_length) * u128::from(settings.soft_fork_epochs) * 9 / 10) as u32
 }
 
-/// A value near the edges of its entry.
-fn value(random: &mut Random, entry: Parameter) -> i32 {
-    match entry {
-        Parameter::BlockVersion if !random.one_in(4) => random.below(6) as i32 - 1,
-        _ => random.number() as i32,
-    }
-}
-
-/// Each entry is absent now and then.
+/// Each entry is absent now and then. Most versions are small.
 pub fn any_table(random: &mut Random) -> Parameters {
     let absent = random.pick(&[2, 4, 50]);
-    let mut table = Parameters::default();
-    for entry in table::ENTRIES {
-        if !random.one_in(absent) {
-            table.parameters_table.insert(entry, value(random, entry));
-        }
+    let mut parameters_table: BTreeMap<Parameter, i32> = table::ENTRIES.map(|entry| (entry, random.number() as i32)).into();
+    if !random.one_in(4) {
+        parameters_table.insert(Parameter::BlockVersion, random.below(6) as i32 - 1);
     }
-    table
+    parameters_table.retain(|_, _| !random.one_in(absent));
+    Parameters { parameters_table }
 }
 
 /// A table with a round near a height's edges: what is put into 121 and 122, and the height.
