@@ -11,11 +11,6 @@ impl Call {
     pub fn new<const N: usize>(name: &'static str, arguments: [Vec<u8>; N]) -> Call {
         Call { name, arguments: arguments.into() }
     }
-
-    /// How many bytes the arguments have.
-    pub fn size(&self) -> usize {
-        self.arguments.iter().map(Vec::len).sum()
-    }
 }
 
 /// A refusal's number or 0, and the bytes: what is written, a flag, or the id of 15.

@@ -36,11 +36,7 @@ fn print_lines(lines: &[String]) {
 
 /// Fails where a row differs.
 fn check(files: &[&str]) -> io::Result<ExitCode> {
-    let mut all = 0;
-    for file in files {
-        let (lines, differ) = rows::check(Path::new(file))?;
-        print_lines(&lines);
-        all += differ;
-    }
-    Ok(if all == 0 { ExitCode::SUCCESS } else { ExitCode::FAILURE })
+    let reports = files.iter().map(|file| rows::check(Path::new(file))).collect::<io::Result<Vec<_>>>()?;
+    reports.iter().for_each(|(lines, _)| print_lines(lines));
+    Ok(ExitCode::from(u8::from(reports.iter().any(|(_, differ)| *differ > 0))))
 }

@@ -17,10 +17,8 @@ const SEED: u64 = 1;
 const MOST_TIMES: usize = 30_000;
 const LARGEST: usize = 600_000;
 
-/// How many bytes a call and its answer have at most; a replay is longer.
-const LONGEST: usize = 260;
-
-/// How many characters of a row are printed.
+/// How many characters a row has at most, but that of a replay, and how many of one are printed.
+const LONGEST: usize = 560;
 const MOST_PRINTED: usize = 300;
 
 /// The calls that have rows, how many arguments each has, the Rust's function, how many rows each number gets beside the chosen ones,
@@ -117,8 +115,8 @@ fn add(rows: &mut Rows, call: &Call, most: usize) {
     let number = if FLAGS.contains(&call.name) { given.bytes[0] } else { given.number };
     let kept = rows.entry((call.name, number)).or_default();
     let most = if number == 0 { most.saturating_mul(2) } else { most };
-    let (row, short) = (text::row(call, &given), call.name == "replay" || call.size() + given.bytes.len() <= LONGEST);
-    if kept.len() < most && short && !kept.contains(&row) {
+    let row = text::row(call, &given);
+    if kept.len() < most && (call.name == "replay" || row.len() <= LONGEST) && !kept.contains(&row) {
         kept.push(row);
     }
 }

@@ -4,6 +4,7 @@ use oracle::bytes::{numbers, table_bytes};
 use oracle::call::Call;
 use oracle::inputs::random::Random;
 use oracle::inputs::voting::any_table;
+use oracle::inputs::writers::field;
 use oracle::inputs::{bodies, boundaries, updates};
 use oracle::rules;
 
@@ -53,12 +54,8 @@ fn statuses_to_write(report: &mut Report, random: &mut Random) {
 
 fn fields_to_write(report: &mut Report, random: &mut Random) {
     for count in [32_769, MOST, MOST + 1] {
-        let mut fields = Vec::new();
-        for _ in 0..count {
-            let size = random.pick(&[0, 0, 0, 4, 64]);
-            fields.extend([random.byte(), random.byte(), size as u8]);
-            fields.extend(random.bytes(size));
-        }
+        let sizes: Vec<usize> = (0..count).map(|_| random.pick(&[0, 0, 0, 4, 64])).collect();
+        let fields = sizes.into_iter().flat_map(|size| field(random, size)).collect();
         compare(report, count, Call::new("pack_extension_bytes", [HEADER_ID.into(), fields]));
     }
 }
@@ -87,10 +84,7 @@ fn bodies(report: &mut Report, random: &mut Random) {
     for size in [MOST - 1, MOST, MOST + 1] {
         let count = (size - 32 - 2) / 7;
         let mut body = [&HEADER_ID[..], &[count as u8 | 0x80, (count >> 7) as u8]].concat();
-        for _ in 0..count {
-            body.extend([random.pick(&[0, 0, 1]), random.byte(), 4]);
-            body.extend(random.bytes(4));
-        }
+        (0..count).for_each(|_| body.extend([&[random.pick(&[0, 0, 1])], &field(random, 4)[1..]].concat()));
         body.resize(size, 0);
         let at = if size > MOST { vec![34] } else { bodies::fields_at(&body) };
         let taken = |call: &Call| size > MOST && call.name == "extract_disabling_rules_from_kv";

@@ -55,9 +55,5 @@ fn main() -> ExitCode {
         });
     }
     println!("{all}");
-    if all.differ == 0 && whole {
-        ExitCode::SUCCESS
-    } else {
-        ExitCode::FAILURE
-    }
+    ExitCode::from(u8::from(all.differ > 0 || !whole))
 }

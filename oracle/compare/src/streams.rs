@@ -1,8 +1,6 @@
 //! What program `replay` prints for an input of records: replayed record by record as a user would, against the oracle's replay.
 
-use ergo_voting::{
-    end_line, epoch_line, head_line, read_record, Network, Record, RecordAt, Refusal, State, Table, MAINNET_VOTES_SIZE,
-};
+use ergo_voting::{end_line, epoch_line, head_line, read_record, Network, RecordAt, Refusal, State, Table, MAINNET_VOTES_SIZE};
 use oracle::inputs::random::Random;
 use oracle::inputs::records::stream;
 use oracle::replay::replay_stream;
@@ -21,26 +19,18 @@ pub fn run(report: &mut Report, random: &mut Random) {
     }
 }
 
-fn printed(input: &[u8]) -> String {
+fn printed(mut input: &[u8]) -> String {
     let mut state = State::open(FIRST_HEIGHT, &Table::default_parameters(Network::Mainnet)).expect("an opening at 1,024");
-    let (mut text, mut accepted, mut rest) = (head_line(), 0, input);
-    while !rest.is_empty() {
-        match step(&mut state, rest) {
-            Ok(record) => {
-                text += &epoch_line(record.height, &state.table());
-                accepted += 1;
-                rest = &rest[record.bytes.len()..];
-            }
-            Err(refusal) => return text + &end_line(accepted, Some(refusal)),
-        }
+    let (mut text, mut accepted) = (head_line(), 0);
+    while !input.is_empty() {
+        let replayed = match read_record(input, MAINNET_VOTES_SIZE) {
+            RecordAt::Whole(record) => state.replay(record.bytes).map(|()| record),
+            RecordAt::Short(_) | RecordAt::Malformed => Err(Refusal::RecordMalformed),
+        };
+        let Ok(record) = replayed else { return text + &end_line(accepted, replayed.err()) };
+        text += &epoch_line(record.height, &state.table());
+        accepted += 1;
+        input = &input[record.bytes.len()..];
     }
     text + &end_line(accepted, None)
-}
-
-/// Replays the record at the front.
-fn step<'a>(state: &mut State, bytes: &'a [u8]) -> Result<Record<'a>, Refusal> {
-    match read_record(bytes, MAINNET_VOTES_SIZE) {
-        RecordAt::Whole(record) => state.replay(record.bytes).map(|()| record),
-        RecordAt::Short(_) | RecordAt::Malformed => Err(Refusal::RecordMalformed),
-    }
 }

@@ -12,20 +12,13 @@ use crate::call::Call;
 use crate::table::{self, Map};
 use crate::{places, rules};
 
-fn key(random: &mut Random) -> [u8; 2] {
-    let first = random.pick(&[0, 0, 0, 0, 1, 2, 255]);
-    [first, random.pick(&[1, 2, 3, 8, 9, 121, 122, 123, 124, 125, 128, 255, 0])]
-}
-
 fn field(random: &mut Random) -> ExtensionField {
-    let key = key(random);
-    if key == [0, 124] {
-        let mut update = updates::update(random);
-        update.truncate(64);
-        return (key, update);
-    }
+    let second = random.pick(&[1, 2, 3, 8, 9, 121, 122, 123, 124, 125, 128, 255, 0]);
+    let key = [random.pick(&[0, 0, 0, 0, 1, 2, 255]), second];
     let size = if random.one_in(12) { random.pick(&[0, 1, 3, 5, 63, 64]) } else { 4 };
-    (key, random.bytes(size))
+    let mut value = if key == [0, 124] { updates::update(random) } else { random.bytes(size) };
+    value.truncate(64);
+    (key, value)
 }
 
 /// The id, the count and the fields; now and then another count, or a value of 65 bytes and more.
@@ -37,13 +30,10 @@ pub fn body(random: &mut Random) -> Vec<u8> {
     body.extend(field_bytes(&fields));
     if random.one_in(10) {
         let size = random.pick(&[64, 65, 66, 128, 255]);
-        body.extend([0, 1, size as u8]);
-        body.extend(random.bytes(size));
+        body.extend([&[0, 1, size as u8], &random.bytes(size)[..]].concat());
     }
-    if random.one_in(5) {
-        let size = random.below(5);
-        body.extend(random.bytes(size));
-    }
+    let after = if random.one_in(5) { random.below(5) } else { 0 };
+    body.extend(random.bytes(after));
     body
 }
 

@@ -5,7 +5,7 @@ use ergo_lib::chain::parameters::Parameter;
 
 use super::random::Random;
 use super::updates::{any, proposed};
-use super::voting::{near_round, settings, tally, vote};
+use super::voting::{entries, near_round, settings, tally};
 use crate::bytes::{question_bytes, tally_bytes};
 use crate::call::Call;
 use crate::rules::{self, Question, Tally};
@@ -44,27 +44,6 @@ pub fn over_list(random: &mut Random) -> Vec<Call> {
 
 fn disabling(rules: &[u16]) -> Vec<u8> {
     voting::encode_disabled_rules(rules)
-}
-
-/// Entries of a list of up to eight: ids repeated, negated, several 120, now and then 0 or -128; counts near half the length.
-fn entries(random: &mut Random, length: u32) -> Tally {
-    let mut tally = Tally::new();
-    for _ in 0..random.below(9) {
-        let id = match (random.below(8), tally.len()) {
-            (0, 1..) => tally[random.below(tally.len())].0,
-            (1, 1..) => tally[random.below(tally.len())].0.wrapping_neg(),
-            (2, _) => 120,
-            (3, _) => random.pick(&[0, 0, -128, -128, -120, 9, -9, 127]),
-            _ => vote(random) as i8,
-        };
-        let count = match random.below(8) {
-            0 | 1 => random.number(),
-            2 => random.pick(&[0, 1, u32::MAX - 1, u32::MAX]),
-            _ => random.near(length / 2),
-        };
-        tally.push((id, count));
-    }
-    tally
 }
 
 /// Entries of which none repeats or contradicts another: up to some 25, most often for parameters and the fork alone.

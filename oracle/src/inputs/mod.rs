@@ -6,7 +6,7 @@ pub mod random;
 pub mod records;
 pub mod updates;
 pub mod voting;
-mod writers;
+pub mod writers;
 
 use crate::call::Call;
 use random::Random;

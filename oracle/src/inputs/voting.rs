@@ -82,20 +82,30 @@ pub fn near_round(random: &mut Random, settings: &VotingConfig, tally: &[(i8, u3
     (table, height)
 }
 
-/// Entries in three places: some are equal, some are the negation of another, several are 120.
-pub fn tally(random: &mut Random, length: u32) -> Tally {
+/// Entries of a list of up to eight: ids repeated, negated, several 120, now and then 0 or -128; counts near half the length.
+pub fn entries(random: &mut Random, length: u32) -> Tally {
     let mut tally = Tally::new();
-    for _ in 0..random.below(4) {
-        let mut id = vote(random) as i8;
-        if let (Some(&(before, _)), true) = (tally.first(), random.one_in(4)) {
-            id = if random.one_in(2) { before } else { before.wrapping_neg() };
-        }
-        let count = if random.one_in(4) { random.number() } else { random.near(length / 2) };
-        if id != 0 {
-            tally.push((id, count));
-        }
+    for _ in 0..random.below(9) {
+        let id = match (random.below(8), tally.len()) {
+            (0, 1..) => tally[random.below(tally.len())].0,
+            (1, 1..) => tally[random.below(tally.len())].0.wrapping_neg(),
+            (2, _) => 120,
+            (3, _) => random.pick(&[0, 0, -128, -128, -120, 9, -9, 127]),
+            _ => vote(random) as i8,
+        };
+        let count = match random.below(8) {
+            0 | 1 => random.number(),
+            2 => random.pick(&[0, 1, u32::MAX - 1, u32::MAX]),
+            _ => random.near(length / 2),
+        };
+        tally.push((id, count));
     }
     tally
+}
+
+/// Up to three of them, none with id 0.
+pub fn tally(random: &mut Random, length: u32) -> Tally {
+    entries(random, length).into_iter().filter(|entry| entry.0 != 0).take(3).collect()
 }
 
 pub fn tallies(random: &mut Random) -> Vec<Call> {

@@ -21,13 +21,17 @@ fn fields(random: &mut Random) -> Vec<u8> {
     for _ in 0..random.pick(&[0, 1, 2, 3, 20, 127, 128, 130]) {
         let most = if random.one_in(60) { 70 } else { 64 };
         let size = if random.one_in(2) { 4 } else { random.below(most + 1) };
-        fields.extend([random.byte(), random.byte(), size as u8]);
-        fields.extend(random.bytes(size));
+        fields.extend(field(random, size));
         if fields.len() > 2_000 {
             break;
         }
     }
     fields
+}
+
+/// A field as it stands in a body, with any key and a value of so many bytes.
+pub fn field(random: &mut Random, size: usize) -> Vec<u8> {
+    [&[random.byte(), random.byte(), size as u8], &random.bytes(size)[..]].concat()
 }
 
 fn parameters(random: &mut Random) -> Vec<u8> {

@@ -8,7 +8,8 @@ use super::build::{Parts, Stream, FORK};
 use super::case::Case;
 use crate::call::Call;
 use crate::record::write_field;
-use crate::rules::{fields, Votes};
+use crate::replay::open;
+use crate::rules::{fields, mainnet_table, Votes};
 
 /// A record, the stream that it is refused after, and a record behind it that would be accepted in its place, where there is one: it
 /// must not be read.
@@ -62,6 +63,7 @@ pub fn streams() -> Vec<Refused> {
 /// For rows alone: records that would be refused by another number, too, and others. 12 of the boundary header, by the old table, comes
 /// before the body; that of another header, by the new one, after 15.
 pub fn orders() -> Vec<Refused> {
+    let at_the_end = Stream::from_state(open(2_147_482_624, mainnet_table()).expect("an opening")).then(&[&[]]);
     let activation = voted_enough([0, 0]).then(&[&[][..]; 32]);
     vec![
         Refused { record: begun().quiet().with_height(7).bytes()[..3_000].to_vec(), ..refused("r25_before_26", 25, |p| p) },
@@ -89,6 +91,7 @@ pub fn orders() -> Vec<Refused> {
         refused("r11_own_negation", 11, |p| p.with_header(1023, [0, 0, 128])),
         refused("r15_old_table", 15, |p| Parts { fields: fields(&begun().state.table), ..p }),
         refused("r15_later_differs", 15, |p| p.with_field([0, 3], &[0, 8, 0, 0])),
+        refused_after(at_the_end, "r26_after_the_last_height", 26, |p| p),
         refused("r26_height_and_2_to_31", 26, |p| p.with_height(3_072 + (1 << 31))),
     ]
 }
