@@ -18,7 +18,7 @@ const MOST_TIMES: usize = 30_000;
 const LARGEST: usize = 600_000;
 
 /// How many characters a row has at most, but that of a replay, and how many of one are printed.
-const LONGEST: usize = 560;
+const LONGEST: usize = 500;
 const MOST_PRINTED: usize = 300;
 
 /// The calls that have rows, how many arguments each has, the Rust's function, how many rows each number gets beside the chosen ones,
@@ -28,7 +28,7 @@ const CALLS: [(&str, usize, &str, usize, &[u8]); 29] = [
     ("check_headers", 1, "check_header_votes, of headers one after another", 15, &[0, 9, 10, 11]),
     ("tally_votes_seeded", 4, "tally_votes_seeded", 25, &[0]),
     ("check_fork_vote", 4, "check_fork_vote", 20, &[0, 12, 19]),
-    ("compute_boundary_parameters", 3, "compute_boundary_parameters", 18, &[0, 7, 8, 13, 14, 17, 19, 20]),
+    ("compute_boundary_parameters", 3, "compute_boundary_parameters", 13, &[0, 7, 8, 13, 14, 17, 19, 20]),
     ("check_parameters_v6", 2, "check_parameters_v6", 20, &[0, 15]),
     ("check_block_version", 2, "check_block_version", 15, &[0, 16, 20]),
     ("default_parameters", 1, "default_parameters", 0, &[0]),

@@ -32,6 +32,7 @@ fn ask(call: &Call, out: &mut [u8]) -> Reply {
     match call.name {
         "check_header_votes" => Number(ffi::ergo_check_header_votes(a(0))),
         "check_headers" => Number(ffi::ergo_check_headers(a(0))),
+        "next_legal_votes" => Size(ffi::ergo_next_legal_votes(a(0), out)),
         "tally_votes_seeded" => Number(ffi::ergo_tally_votes_seeded(number(0), a(1), number(2), number(3), out)),
         "check_fork_vote" => Number(ffi::ergo_check_fork_vote(a(0), number(1), a(2), a(3))),
         "compute_boundary_parameters" => {

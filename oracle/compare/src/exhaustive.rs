@@ -1,38 +1,26 @@
 //! Inputs that are tried whole.
 
-use ergo_voting::ffi::ergo_next_legal_votes;
-use oracle::bytes::numbers;
-use oracle::call::Call;
+use oracle::bytes::{numbers, Input};
+use oracle::call::{Answer, Call};
 use oracle::inputs::random::Random;
 use oracle::inputs::{bodies, updates};
 use oracle::listing;
 use oracle::rules::check_header;
-use oracle::text::hex;
 
-use crate::report::{Difference, Report};
+use crate::report::Report;
 
 pub fn all_headers(report: &mut Report, _: &mut Random) {
     listing::all().for_each(|votes| report.compare(&Call::new("check_header_votes", [votes.to_vec()])));
 }
 
-/// From the last header down: the next one is the last that the Rust accepted on the way. It is lent three cells, more, and too few.
+/// From the last header down: the next one is the last that the Rust accepted on the way.
 pub fn next_headers(report: &mut Report, _: &mut Random) {
-    let mut next: Vec<u8> = Vec::new();
-    for votes in listing::all().rev() {
-        let asked = [next.len(), next.len() + 3].map(|length| {
-            let mut cells = vec![0xee; length];
-            (ergo_next_legal_votes(&votes, &mut cells), cells)
-        });
-        let size = next.len() as i64;
-        let same = asked == [(size, next.clone()), (size, [&next[..], &[0xee; 3]].concat())];
-        let short = next.is_empty() || ergo_next_legal_votes(&votes, &mut [0; 2]) == -21;
-        report.count(same && short, || Difference {
-            input: format!("the next legal header after {}", hex(&votes)),
-            rust: hex(&next),
-            library: format!("{asked:?}, in two cells 21: {short}"),
-        });
-        if check_header(votes).is_ok() {
-            next = votes.to_vec();
+    let mut next = Vec::new();
+    for votes in listing::all().rev().map(Vec::from) {
+        let call = Call::new("next_legal_votes", [votes.clone()]);
+        report.compare_with(&call, Ok(Answer { number: 0, bytes: next.clone() }));
+        if check_header(Input(&votes).array()).is_ok() {
+            next = votes;
         }
     }
 }

@@ -14,7 +14,7 @@ mod windows;
 use std::process::ExitCode;
 
 use oracle::inputs::random::Random;
-use oracle::inputs::KINDS;
+use oracle::inputs::{Kind, KINDS};
 use report::Report;
 
 type Run = fn(&mut Report, &mut Random);
@@ -37,22 +37,17 @@ const OTHERS: [(&str, Run); 11] = [
 fn main() -> ExitCode {
     let seed = std::env::args().nth(1).map_or(1, |word| word.parse().expect("a seed is a number"));
     println!("seed {seed}");
-    let mut all = Report::default();
-    let mut whole = true;
+    let (mut all, mut whole) = (Report::default(), true);
     let mut print = |name: &str, run: &dyn Fn(&mut Report, &mut Random)| {
         let mut report = Report::default();
         run(&mut report, &mut Random::new(seed));
         println!("{name}: {report}");
         whole &= report.compared > 0;
-        all.compared += report.compared;
-        all.differ += report.differ;
-        all.outside += report.outside;
+        all.add(&report);
     };
     OTHERS.iter().for_each(|(name, run)| print(name, run));
-    for kind in KINDS {
-        print(kind.name, &|report, random| {
-            (0..kind.times).for_each(|_| (kind.make)(random).iter().for_each(|call| report.compare(call)));
-        });
+    for Kind { name, times, make } in KINDS {
+        print(name, &|report, random| (0..times).flat_map(|_| make(random)).for_each(|call| report.compare(&call)));
     }
     println!("{all}");
     ExitCode::from(u8::from(all.differ > 0 || !whole))

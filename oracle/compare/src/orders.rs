@@ -6,7 +6,7 @@ use oracle::inputs::boundaries::in_two_orders;
 use oracle::inputs::random::Random;
 use oracle::text;
 
-use crate::report::{Difference, Report};
+use crate::report::Report;
 
 const TIMES: usize = 300_000;
 
@@ -20,10 +20,12 @@ pub fn run(report: &mut Report, random: &mut Random) {
         let [Ok(one), Ok(other)] = calls.each_ref().map(answer) else { continue };
         let either = |answer: &Answer| matches!(answer.number, 13 | 14);
         other_number += u64::from(one.number != other.number);
-        report.count(one == other || either(&one) && either(&other), || Difference {
-            input: calls.each_ref().map(text::call).join(" and "),
-            rust: [&one, &other].map(text::answer).join(" and "),
-            library: "not asked; the rules say that the two are the same".to_owned(),
+        report.count(one == other || either(&one) && either(&other), || {
+            [
+                calls.each_ref().map(text::call).join(" and "),
+                [&one, &other].map(text::answer).join(" and "),
+                "not asked; the rules say that the two are the same".to_owned(),
+            ]
         });
     }
     assert!(other_number > 0, "no tally was refused by 13 in one order and by 14 in the other");

@@ -6,7 +6,7 @@ use oracle::inputs::records::stream;
 use oracle::replay::replay_stream;
 use oracle::text::hex;
 
-use crate::report::{Difference, Report};
+use crate::report::Report;
 
 const TIMES: usize = 300;
 const FIRST_HEIGHT: u32 = 1_024;
@@ -15,7 +15,7 @@ pub fn run(report: &mut Report, random: &mut Random) {
     for _ in 0..TIMES {
         let input = stream(random);
         let (rust, library) = (replay_stream(&input), printed(&input));
-        report.count(rust == library, || Difference { input: format!("what is printed for {}", hex(&input)), rust, library });
+        report.count(rust == library, || [format!("what is printed for {}", hex(&input)), rust, library]);
     }
 }
 

@@ -6,7 +6,7 @@ use oracle::inputs::random::Random;
 use oracle::inputs::voting;
 use oracle::rules::{self, Votes};
 
-use crate::report::{Difference, Report};
+use crate::report::Report;
 
 const LENGTHS: [u32; 6] = [1, 2, 1_023, 1_024, 4_095, 4_096];
 const LONGEST: u32 = 4_096;
@@ -47,7 +47,7 @@ fn compare(report: &mut Report, input: impl Fn() -> String, rules: (i64, &[u16])
         let cell = rules.1.iter().zip(library.1).position(|(one, other)| one != other).unwrap_or(0);
         let shown = |(answer, cells): (i64, &[u16])| format!("{answer}, cell {cell} is {:?}", cells.get(cell));
         let rust = format!("has no window; its header check and the rules say {}", shown(rules));
-        Difference { input: input(), rust, library: shown(library) }
+        [input(), rust, shown(library)]
     });
 }
 

@@ -70,19 +70,14 @@ pub fn in_two_orders(random: &mut Random) -> [Call; 2] {
     [tally, other].map(|tally| asked(&question, &tally, update.clone()))
 }
 
-/// Mainnet's first height of a round.
-const START: u32 = 1_024;
-const EPOCH: u32 = 1_024;
-
 /// More votes than half.
 const ENOUGH: u32 = 513;
 
 /// A boundary of mainnet so many epochs after its round opened, with 29,492 votes and these entries.
 fn after(epochs: u32, entries: &[(i8, i32)]) -> Question {
     let mut map: Map = to_map(&rules::mainnet_table());
-    map.extend([(121, 29_492), (122, START as i32)]);
-    map.extend(entries.iter().copied());
-    Question { settings: rules::mainnet(), height: START + EPOCH * epochs, table: from_map(&map), fork_vote: false }
+    map.extend([(121, 29_492), (122, 1_024)].iter().chain(entries).copied());
+    Question { settings: rules::mainnet(), height: 1_024 + 1_024 * epochs, table: from_map(&map), fork_vote: false }
 }
 
 /// Mainnet where the round raises the version, so that the update is activated.
@@ -92,67 +87,42 @@ pub fn rising(tally: &[(i8, u32)], update: Vec<u8>) -> Call {
 
 /// Chosen boundaries of mainnet: each of them is answered otherwise where one rule is another.
 pub fn chosen() -> Vec<Call> {
-    [rounds(), versions(), subblocks(), steps(), orders()].concat()
-}
-
-/// docs/RULES.md, "In another order": where it matters, with parameter 1 at its greatest value and no parameter 2.
-fn orders() -> Vec<Call> {
-    let mut question = after(1, &[(1, 2_500_000)]);
-    question.table.parameters_table.remove(&Parameter::MinValuePerByte);
-    let tally = |(first, second)| asked(&question, &[(first, ENOUGH), (second, ENOUGH)], Vec::new());
-    [(-1, 1), (1, -1), (10, 2), (2, 10)].map(tally).into()
-}
-
-/// All that happens to a round, approved or not, with and without a vote for the next one; and a total that wraps.
-fn rounds() -> Vec<Call> {
     let mut calls = Vec::new();
+    let mut ask = |question: &Question, tally: &[(i8, u32)], update| calls.push(asked(question, tally, update));
+    // All that happens to a round, approved or not, with and without a vote for the next one; and a total that wraps.
     for epochs in [1, 32, 33, 34, 64, 65] {
         for (total, fork_vote) in [(29_491, false), (29_491, true), (29_492, false), (29_492, true)] {
-            calls.push(asked(&Question { fork_vote, ..after(epochs, &[(121, total)]) }, &[], Vec::new()));
+            ask(&Question { fork_vote, ..after(epochs, &[(121, total)]) }, &[], Vec::new());
         }
+        ask(&after(epochs, &[(121, i32::MAX)]), &[(120, 1)], Vec::new());
     }
-    calls.extend([1, 33, 64].map(|epochs| asked(&after(epochs, &[(121, i32::MAX)]), &[(120, 1)], Vec::new())));
-    calls
-}
-
-/// Versions that rise, some of them at the version-2 height: 1 rises to 2 and 0 to 1, which is then forced. The greatest one wraps.
-fn versions() -> Vec<Call> {
-    let mut calls = Vec::new();
-    for version in [-1, 0, 1, 2, i32::MAX] {
-        for epochs in [63, 64] {
-            let plain = after(epochs, &[(123, version)]);
-            let mut forced = plain.clone();
-            forced.settings.version2_activation_height = forced.height;
-            calls.extend([asked(&plain, &[], Vec::new()), asked(&forced, &[], Vec::new())]);
-        }
+    // Versions that rise, some of them at the version-2 height: 1 rises to 2 and 0 to 1, which is then forced. The greatest one wraps.
+    for (version, epochs) in [-1, 0, 1, 2, i32::MAX].into_iter().flat_map(|version| [(version, 63), (version, 64)]) {
+        let mut question = after(epochs, &[(123, version)]);
+        ask(&question, &[], Vec::new());
+        question.settings.version2_activation_height = question.height;
+        ask(&question, &[], Vec::new());
     }
-    calls
-}
-
-/// Entry 9 at version 4: 409 counts only in an update that is activated, and a vote for an absent 9 comes before it is put in.
-fn subblocks() -> Vec<Call> {
-    let mut calls = Vec::new();
+    // Entry 9 at version 4: 409 counts only in an update that is activated, and a vote for an absent 9 comes before it is put in.
     for (epochs, version) in [(63, 4), (64, 3), (64, 4), (63, 3)] {
-        for rules in [&[][..], &[409], &[215, 409], &[215]] {
-            calls.push(asked(&after(epochs, &[(123, version)]), &[], disabling(rules)));
-        }
-        for vote in [9, -9] {
-            calls.push(asked(&after(epochs, &[(123, version)]), &[(vote, ENOUGH)], Vec::new()));
-            calls.push(asked(&after(epochs, &[(123, version), (9, 30)]), &[(vote, ENOUGH)], Vec::new()));
-        }
+        let question = after(epochs, &[(123, version)]);
+        [&[][..], &[409], &[215, 409], &[215]].iter().for_each(|rules| ask(&question, &[], disabling(rules)));
+        [9, -9].iter().for_each(|&vote| ask(&question, &[(vote, ENOUGH)], Vec::new()));
+        ask(&after(epochs, &[(123, version), (9, 30)]), &[(9, ENOUGH)], Vec::new());
     }
-    calls
-}
-
-/// Each parameter at and beside its least and its greatest value, and between them, moved up and down.
-fn steps() -> Vec<Call> {
-    let mut calls = Vec::new();
+    // Each parameter at and beside its least and its greatest value, and between them, moved up and down.
     for id in 1..=9 {
         let [least, greatest] = [voting::parameter_min(id), voting::parameter_max(id)].map(|limit| limit.expect("a limit"));
-        let moved = |value, vote, count| asked(&after(40, &[(id, value)]), &[(vote, count)], Vec::new());
-        calls.extend([least, least + 1, greatest].map(|value| moved(value, -id, ENOUGH)));
-        calls.extend([least, greatest - 1, greatest].map(|value| moved(value, id, ENOUGH)));
-        calls.extend([moved(199, id, ENOUGH), moved(300, id, ENOUGH), moved(300, -id, ENOUGH), moved(300, id, ENOUGH - 1)]);
+        let mut moved = |vote, value| ask(&after(40, &[(id, value)]), &[(vote, ENOUGH)], Vec::new());
+        [least, least + 1, 300, greatest].iter().for_each(|&value| moved(-id, value));
+        [least, 199, 300, greatest - 1, greatest].iter().for_each(|&value| moved(id, value));
+        ask(&after(40, &[(id, 300)]), &[(id, ENOUGH - 1)], Vec::new());
+    }
+    // docs/RULES.md, "In another order": where it matters, with parameter 1 at its greatest value and no parameter 2.
+    let mut question = after(1, &[(1, 2_500_000)]);
+    question.table.parameters_table.remove(&Parameter::MinValuePerByte);
+    for (first, second) in [(-1, 1), (1, -1), (10, 2), (2, 10)] {
+        ask(&question, &[(first, ENOUGH), (second, ENOUGH)], Vec::new());
     }
     calls
 }

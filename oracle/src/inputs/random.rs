@@ -1,5 +1,7 @@
 //! Random numbers from a seed, most of them near numbers where an answer changes.
 
+use sigma_ser::vlq_encode::WriteSigmaVlqExt;
+
 const EDGES: [u32; 36] = [
     0, 2, 9, 64, 120, 122, 124, 127, 128, 255, 256, 409, 512, 513, 1_000, 1_024, 2_048, 10_000, 16_384, 25_000, 29_491, 32_767,
     32_768, 32_769, 65_535, 65_536, 65_537, 417_792, 2_500_000, 0x3fffffff, 0x7ffffc00, 0x7fffffff, 0x80000000, 0xfffffc00,
@@ -59,12 +61,7 @@ impl Random {
     /// A VLQ number, now and then in a longer form than the shortest.
     pub fn vlq(&mut self, number: u32) -> Vec<u8> {
         let mut bytes = Vec::new();
-        let mut left = number;
-        while left > 0x7f {
-            bytes.push(left as u8 | 0x80);
-            left >>= 7;
-        }
-        bytes.push(left as u8);
+        bytes.put_u32(number).expect("write to memory");
         if self.one_in(12) {
             let last = bytes.len() - 1;
             bytes[last] |= 0x80;
@@ -76,10 +73,10 @@ impl Random {
 
     /// The bytes as they are, or with one thing wrong.
     pub fn damaged(&mut self, bytes: Vec<u8>) -> Vec<u8> {
-        match self.one_in(3) {
-            true => bytes,
-            false => self.damage(bytes),
+        if self.one_in(3) {
+            return bytes;
         }
+        self.damage(bytes)
     }
 
     pub fn damage(&mut self, mut bytes: Vec<u8>) -> Vec<u8> {

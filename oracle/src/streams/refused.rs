@@ -82,7 +82,6 @@ pub fn orders() -> Vec<Refused> {
         voted("r07_before_13", 7, [10, 0, 0], &[0]),
         voted("r13_before_14", 13, [246, 9, 0], &[]),
         voted("r14_before_13", 14, [9, 0, 10], &[]),
-        voted("r13_id_minus_120", 13, [136, 0, 0], &[]),
         refused("r01_no_bytes", 1, |p| p.with_body(&[])),
         refused("r02_count_of_33_bits", 2, |p| p.with_count(&[0x80, 0x80, 0x80, 0x80, 0x10], &[])),
         refused("r03_no_byte_of_field", 3, |p| p.with_more(1, &[])),

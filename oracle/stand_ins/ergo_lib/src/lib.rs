@@ -1,16 +1,15 @@
-//! Stand-in for `ergo_lib`, as docs/RULES.md has it: a table of twelve entries, and a status of size, code and raw bytes.
+//! Stand-in for `ergo_lib`, as docs/RULES.md has it: a table of twelve entries, and a status of size, code and raw bytes. The
+//! other structs are names only.
 
 pub mod chain {
     pub mod parameters;
 
     pub mod ergo_state_context {
-        /// A name only.
         #[derive(Debug)]
         pub struct ErgoStateContext;
     }
 
     pub mod transaction {
-        /// A name only.
         #[derive(Debug)]
         pub struct Transaction;
     }
@@ -22,7 +21,6 @@ pub mod ergotree_ir {
 
     pub mod chain {
         pub mod ergo_box {
-            /// A name only.
             #[derive(Debug)]
             pub struct ErgoBox;
         }

@@ -13,7 +13,7 @@ pub mod vlq_encode {
 
     impl fmt::Display for VlqEncodingError {
         fn fmt(&self, f: &mut fmt::Formatter<'_>) -> fmt::Result {
-            f.write_str("the number is unreadable")
+            f.write_str("unreadable")
         }
     }
 

@@ -1,23 +1,7 @@
-use std::fmt;
 use std::io::{self, Read, Write};
 
-use sigma_ser::vlq_encode::VlqEncodingError;
-
 /// A number is unreadable, or bytes are missing.
-#[derive(Debug)]
-pub struct SigmaParsingError;
-
-impl fmt::Display for SigmaParsingError {
-    fn fmt(&self, f: &mut fmt::Formatter<'_>) -> fmt::Result {
-        f.write_str("unreadable")
-    }
-}
-
-impl From<VlqEncodingError> for SigmaParsingError {
-    fn from(_: VlqEncodingError) -> Self {
-        SigmaParsingError
-    }
-}
+pub use sigma_ser::vlq_encode::VlqEncodingError as SigmaParsingError;
 
 pub trait SigmaSerializable: Sized {
     fn sigma_parse<R: Read>(r: &mut R) -> Result<Self, SigmaParsingError>;
