@@ -52,10 +52,8 @@ pub fn answer(call: &Call) -> Given {
         "parse_validation_settings_update" => told(rules::parse_update(bytes(0)), |update| sections(bytes(0), &update)),
         "rule_at" => told(places::rule_at(bytes(0), at()), |places| numbers(&places)),
         "status_at" => told(places::status_at(bytes(0), at()), |places| numbers(&places)),
-        "rule_may_not_be_disabled" => {
-            let rule = a(0).u32().try_into().map_err(|_| Gap::NoCounterpart)?;
-            accepted(vec![rules::mandatory(rule).into()])
-        }
+        "rule_may_not_be_disabled" if a(0).u32() > 65_535 => Err(Gap::NoCounterpart),
+        "rule_may_not_be_disabled" => accepted(vec![rules::mandatory(a(0).u32() as u16).into()]),
         "pack_extension_bytes" => told(rules::pack_body(a(0).array(), &listed_fields(bytes(1))?), Vec::from),
         "pack_parameters_to_kv" => accepted(field_bytes(&voting::pack_parameters_to_kv(&a(0).map()))),
         "encode_validation_settings_update" => told(rules::encode_update(&listed_update(call)?), Vec::from),

@@ -24,7 +24,9 @@ impl Book {
     fn accepted(&mut self, height: u32, votes: &[Votes]) {
         if let Some((start, count)) = self.round {
             let k = (height - start) / LENGTH;
-            let count = if k <= 32 { count + self.counted_before() } else { count };
+            let seeded = self.before.first().is_some_and(votes_fork);
+            let voted = self.before.iter().filter(|votes| votes_fork(votes)).count() as i32;
+            let count = if k <= 32 && seeded { count + voted } else { count };
             self.round = Some((start, count));
             let approved = count > 29_491;
             if k == 64 && approved {
@@ -43,18 +45,10 @@ impl Book {
         self.before = votes.to_vec();
     }
 
-    fn counted_before(&self) -> i32 {
-        match self.before.first() {
-            Some(first) if votes_fork(first) => self.before.iter().filter(|votes| votes_fork(votes)).count() as i32,
-            _ => 0,
-        }
-    }
-
     fn agrees(&self, state: &State) -> bool {
-        let entry = |id| get(&state.table, id);
-        entry(Parameter::BlockVersion) == Some(self.version)
-            && entry(Parameter::SoftForkStartingHeight) == self.round.map(|(start, _)| start as i32)
-            && entry(Parameter::SoftForkVotesCollected) == self.round.map(|(_, count)| count)
+        let (start, count) = self.round.map(|(start, count)| (start as i32, count)).unzip();
+        let entries = [Parameter::BlockVersion, Parameter::SoftForkStartingHeight, Parameter::SoftForkVotesCollected];
+        entries.map(|entry| get(&state.table, entry)) == [Some(self.version), start, count]
     }
 }
 

@@ -37,32 +37,25 @@ pub fn time() {
 /// Both begin with the same full window.
 fn timed(length: usize, name: &str, voting: usize) {
     let headers = headers_alone(PUT, voting);
-    let (mut ring, mut cells) = (Ring::new(length), vec![0; SUPPORTS + 3 * length]);
+    let (mut ring, mut cells) = (Ring { headers: vec![[0; 3]; length], oldest: 0 }, vec![0; SUPPORTS + 3 * length]);
     let mut window = ffi::ergo_window_new(length as u32, &mut cells);
     let mut put = |votes: Votes| {
         window = ffi::ergo_window_put(window as u64, &mut cells, &votes);
         assert!(window >= 0);
         cells[usize::from(FORK)]
     };
-    for &votes in &headers {
-        ring.put(votes);
-        assert_eq!(put(votes), ring.support(FORK));
-    }
+    headers.iter().for_each(|&votes| assert_eq!(put(votes), ring.after(votes).support(FORK)));
     let time = each(&headers, put);
     println!("{name}, {length}: put {time:.1} ns a header");
     for (form, supports) in FORMS {
         assert_eq!(cells[..SUPPORTS], supports(&ring));
-        let all = each(&headers[..COUNTED], |votes| {
-            ring.put(votes);
-            black_box(&supports(&ring))[usize::from(FORK)]
-        });
+        let all = each(&headers[..COUNTED], |votes| black_box(&supports(ring.after(votes)))[usize::from(FORK)]);
         println!("  all ids afresh, {form}: {all:.0} ns, ratio {:.0}", all / time);
-        headers.iter().for_each(|&votes| ring.put(votes));
+        for &votes in &headers {
+            ring.after(votes);
+        }
     }
-    let one = each(&headers[..COUNTED], |votes| {
-        ring.put(votes);
-        ring.support(FORK)
-    });
+    let one = each(&headers[..COUNTED], |votes| ring.after(votes).support(FORK));
     println!("  one id afresh: {one:.0} ns, ratio {:.1}", one / time);
 }
 
@@ -83,13 +76,11 @@ struct Ring {
 }
 
 impl Ring {
-    fn new(length: usize) -> Ring {
-        Ring { headers: vec![[0; 3]; length], oldest: 0 }
-    }
-
-    fn put(&mut self, votes: Votes) {
+    /// With a header in the place of the oldest.
+    fn after(&mut self, votes: Votes) -> &Ring {
         self.headers[self.oldest] = votes;
         self.oldest = if self.oldest + 1 == self.headers.len() { 0 } else { self.oldest + 1 };
+        self
     }
 
     fn byte_by_byte(&self) -> [u16; SUPPORTS] {

@@ -140,8 +140,9 @@ fn epoch(random: &mut Random, map: &Map) -> Vec<Votes> {
         let count = random.pick(&[0, 511, 512, 513, 514, 700, 1_023, 1_024]);
         let others = if random.one_in(2) { vote.wrapping_neg() } else { 0 };
         let silent = usize::from(random.one_in(5));
-        let header = |i| if i < silent + count { vote } else { others };
-        (silent..HEADERS).for_each(|i| votes[i][slot] = header(i));
+        for (i, header) in votes.iter_mut().enumerate().skip(silent) {
+            header[slot] = if i < silent + count { vote } else { others };
+        }
     }
     if random.one_in(12) {
         votes.iter_mut().take(random.pick(&[1, 513, 1_024])).for_each(|header| header[2] = 120);

@@ -68,17 +68,12 @@ pub fn near_round(random: &mut Random, settings: &VotingConfig, tally: &[(i8, u3
     let start = if random.one_in(5) { random.number() } else { start };
     let epochs = [0, 1, voted, voted.wrapping_add(1), voted.wrapping_add(activation)];
     let epochs = random.pick(&epochs).wrapping_add(random.below(2) as u32);
-    let mut height = start.wrapping_add(length.wrapping_mul(epochs));
-    if random.one_in(4) {
-        height = random.near(height);
-    }
+    let height = start.wrapping_add(length.wrapping_mul(epochs));
+    let height = if random.one_in(4) { random.near(height) } else { height };
     let counted = tally.iter().find(|(id, _)| *id == 120).map_or(0, |(_, count)| *count);
     let total = random.near(threshold(settings)).wrapping_sub(if random.one_in(3) { 0 } else { counted });
-    for (entry, value) in [(Parameter::SoftForkStartingHeight, start), (Parameter::SoftForkVotesCollected, total)] {
-        if !random.one_in(8) {
-            table.parameters_table.insert(entry, value as i32);
-        }
-    }
+    let round = [(Parameter::SoftForkStartingHeight, start as i32), (Parameter::SoftForkVotesCollected, total as i32)];
+    table.parameters_table.extend(round.into_iter().filter(|_| !random.one_in(8)));
     (table, height)
 }
 
@@ -122,9 +117,7 @@ pub fn fork_checks(random: &mut Random) -> Vec<Call> {
     let settings = settings(random);
     let (table, height) = near_round(random, &settings, &[]);
     let mut votes = votes(random);
-    if !random.one_in(4) {
-        votes[random.below(3)] = 120;
-    }
+    votes[random.below(3)] = random.pick(&[votes[0], 120, 120, 120]);
     let arguments = [settings_bytes(&settings), height.to_be_bytes().into(), votes.into(), table_bytes(&table)];
     vec![Call::new("check_fork_vote", arguments)]
 }

@@ -9,24 +9,17 @@ pub fn make(random: &mut Random) -> Vec<Call> {
         0 => Call::new("pack_extension_bytes", [random.bytes(32), fields(random)]),
         1 => Call::new("pack_parameters_to_kv", [parameters(random)]),
         2 => Call::new("encode_validation_settings_update", update(random)),
-        _ => {
-            let count = random.pick(&[0, 1, 2, 3, 9, 127, 128, 129]);
-            Call::new("encode_disabled_rules", [rules(random, count)])
-        }
+        _ => Call::new("encode_disabled_rules", [rules(random, &[0, 1, 2, 3, 9, 127, 128, 129])]),
     }]
 }
 
 fn fields(random: &mut Random) -> Vec<u8> {
-    let mut fields = Vec::new();
-    for _ in 0..random.pick(&[0, 1, 2, 3, 20, 127, 128, 130]) {
+    let any = |random: &mut Random| {
         let most = if random.one_in(60) { 70 } else { 64 };
         let size = if random.one_in(2) { 4 } else { random.below(most + 1) };
-        fields.extend(field(random, size));
-        if fields.len() > 2_000 {
-            break;
-        }
-    }
-    fields
+        field(random, size)
+    };
+    (0..random.pick(&[0, 1, 2, 3, 20, 127, 128, 130])).flat_map(|_| any(random)).collect()
 }
 
 /// A field as it stands in a body, with any key and a value of so many bytes.
@@ -35,17 +28,15 @@ pub fn field(random: &mut Random, size: usize) -> Vec<u8> {
 }
 
 fn parameters(random: &mut Random) -> Vec<u8> {
-    let mut map = Vec::new();
-    for _ in 0..random.below(12) {
-        let id = random.byte();
-        map.push(random.pick(&[id, id, 1, 9, 123, 124, 125, 127, 128]));
-        map.extend(random.number().to_be_bytes());
-    }
-    map
+    let entry = |random: &mut Random| {
+        let any = random.byte();
+        [&[random.pick(&[any, any, 1, 9, 123, 124, 125, 127, 128])], &random.number().to_be_bytes()[..]].concat()
+    };
+    (0..random.below(12)).flat_map(|_| entry(random)).collect()
 }
 
-fn rules(random: &mut Random, count: usize) -> Vec<u8> {
-    (0..count).flat_map(|_| (rule(random) as u16).to_be_bytes()).collect()
+fn rules(random: &mut Random, counts: &[usize]) -> Vec<u8> {
+    (0..random.pick(counts)).flat_map(|_| (rule(random) as u16).to_be_bytes()).collect()
 }
 
 fn status_id(random: &mut Random) -> i16 {
@@ -58,9 +49,9 @@ fn status_id(random: &mut Random) -> i16 {
 
 /// The lists of the statuses fit one another.
 fn update(random: &mut Random) -> [Vec<u8>; 5] {
-    let (rule_count, statuses) = (random.below(4), random.pick(&[0, 1, 2, 3, 130]));
+    let statuses = random.pick(&[0, 1, 2, 3, 130]);
     let ids = (0..statuses).flat_map(|_| status_id(random).to_be_bytes()).collect();
     let sizes: Vec<u32> = (0..statuses).map(|_| random.pick(&[0, 1, 2, 5, 127])).collect();
     let raw = random.bytes(sizes.iter().sum::<u32>() as usize);
-    [rules(random, rule_count), ids, random.bytes(statuses), sizes.into_iter().flat_map(u32::to_be_bytes).collect(), raw]
+    [rules(random, &[0, 1, 2, 3]), ids, random.bytes(statuses), sizes.into_iter().flat_map(u32::to_be_bytes).collect(), raw]
 }

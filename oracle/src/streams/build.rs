@@ -8,7 +8,7 @@ use crate::call::Call;
 use crate::record::{first_votes, write_field, HEADERS};
 use crate::refusal::Refusal;
 use crate::replay::{open_mainnet, State};
-use crate::rules::{fields, pack_body, Tally, Votes};
+use crate::rules::{fields, pack_body, Votes};
 
 pub const QUIET: Votes = [0, 0, 0];
 pub const FORK: Votes = [120, 0, 0];
@@ -137,11 +137,6 @@ impl Stream {
     /// The next record, with quiet headers.
     pub fn quiet(&self) -> Parts {
         self.next(headers(&[]))
-    }
-
-    /// The same, as if the epoch before had no votes.
-    pub fn untallied(&self) -> Parts {
-        Stream::from_state(State { tally: Tally::new(), ..self.state.clone() }).quiet()
     }
 
     /// Adds epochs that are accepted.

@@ -8,7 +8,7 @@ use super::build::{Parts, Stream, FORK};
 use super::case::Case;
 use crate::call::Call;
 use crate::record::write_field;
-use crate::replay::open;
+use crate::replay::{open, State};
 use crate::rules::{fields, mainnet_table, Votes};
 
 /// A record, the stream that it is refused after, and a record behind it that would be accepted in its place, where there is one: it
@@ -115,7 +115,7 @@ fn refused(name: &'static str, number: u8, change: impl Fn(Parts) -> Parts) -> R
 /// without such votes.
 fn voted(name: &'static str, number: u8, votes: Votes, update: &[u8]) -> Refused {
     let before = Stream::mainnet().then(&[&[(1024, [3, 255, 120])], &[(513, votes)]]);
-    let next = before.untallied();
+    let next = Stream::from_state(State { tally: Vec::new(), ..before.state.clone() }).quiet();
     Refused { name, number, before, behind: next.bytes(), record: next.with_update(update).bytes() }
 }
 
