@@ -32,8 +32,7 @@ pub fn answer(call: &Call) -> Given {
         "voting_config" => accepted(settings_bytes(&VotingConfig::testnet())),
         "soft_fork_approved" => {
             let settings = VotingConfig { activation_epochs: 0, ..a(0).settings() };
-            let small = rules::settings_small(&settings);
-            told(small, |()| vec![settings.soft_fork_approved((a(1).u32() as i32).into()).into()])
+            told(rules::settings_small(&settings), |()| vec![settings.soft_fork_approved((a(1).u32() as i32).into()).into()])
         }
         "change_approved" => accepted(vec![a(0).settings().change_approved(a(1).u32()).into()]),
         "parameter_min" => accepted(value_bytes(voting::parameter_min(id()))),

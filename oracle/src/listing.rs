@@ -12,5 +12,6 @@ pub fn all() -> impl DoubleEndedIterator<Item = Votes> {
 /// Writes the numbers of those that are accepted, a number a line.
 pub fn write(out: &mut impl Write) -> io::Result<()> {
     let number = |[a, b, c]: Votes| u32::from_be_bytes([0, a, b, c]);
-    all().filter(|&votes| check_header(votes).is_ok()).try_for_each(|votes| writeln!(out, "{}", number(votes)))
+    all().filter(|&votes| check_header(votes).is_ok()).try_for_each(|votes| writeln!(out, "{}", number(votes)))?;
+    out.flush()
 }

@@ -1,6 +1,6 @@
 //! `oracle rows FILE`, `oracle check FILE..`, `oracle streams FOLDER`, `oracle listing`, `oracle replay`.
 
-use std::io::{self, BufWriter, Read, Write};
+use std::io::{self, BufWriter, Read};
 use std::path::Path;
 use std::process::ExitCode;
 
@@ -12,11 +12,7 @@ fn main() -> io::Result<ExitCode> {
         ["rows", file] => print_lines(&rows::write(Path::new(file))?),
         ["check", ref files @ ..] if !files.is_empty() => return check(files),
         ["streams", folder] => print_lines(&streams::write(Path::new(folder))?),
-        ["listing"] => {
-            let mut out = BufWriter::new(io::stdout().lock());
-            listing::write(&mut out)?;
-            out.flush()?;
-        }
+        ["listing"] => listing::write(&mut BufWriter::new(io::stdout().lock()))?,
         ["replay"] => {
             let mut bytes = Vec::new();
             io::stdin().read_to_end(&mut bytes)?;

@@ -66,13 +66,11 @@ type Rows = BTreeMap<(&'static str, u8), Vec<String>>;
 /// Writes the rows, each call's under a comment with the Rust's function, and answers how many there are.
 pub fn write(file: &Path) -> io::Result<Vec<String>> {
     let rows = rows();
-    let text: String = CALLS
-        .iter()
-        .flat_map(|&(name, _, function, _, numbers)| {
-            let of_call = numbers.iter().map(|number| rows[&(name, *number)].concat());
-            [format!("# {name}: {function}\n")].into_iter().chain(of_call).collect::<Vec<_>>()
-        })
-        .collect();
+    let mut text = String::new();
+    for (name, _, function, _, numbers) in CALLS {
+        text += &format!("# {name}: {function}\n");
+        numbers.iter().for_each(|number| text += &rows[&(name, *number)].concat());
+    }
     assert!(text.len() <= LARGEST, "{} bytes in all", text.len());
     fs::write(file, &text)?;
     Ok(vec![format!("{} rows, {} bytes", rows.values().map(Vec::len).sum::<usize>(), text.len())])
@@ -85,8 +83,8 @@ fn rows() -> Rows {
         add(&mut rows, &refused.call(), usize::MAX);
     }
     refused::streams().iter().for_each(|refused| add_few(&mut rows, &refused.call()));
-    for (times, make) in KINDS.map(|kind| (kind.times, kind.make)).into_iter().chain([(5_000, voting::headers as Make)]) {
-        let mut random = Random::new(SEED);
+    for (_, times, make) in KINDS.into_iter().chain([("headers", 5_000, voting::headers as Make)]) {
+        let mut random = Random(SEED);
         (0..times.min(MOST_TIMES)).flat_map(|_| make(&mut random)).for_each(|call| add_few(&mut rows, &call));
     }
     chosen().iter().for_each(|call| add(&mut rows, call, usize::MAX));

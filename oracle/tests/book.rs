@@ -16,12 +16,9 @@ struct Book {
     before: Vec<Votes>,
 }
 
-fn votes_fork(votes: &Votes) -> bool {
-    votes.contains(&120)
-}
-
 impl Book {
     fn accepted(&mut self, height: u32, votes: &[Votes]) {
+        let votes_fork = |votes: &Votes| votes.contains(&120);
         if let Some((start, count)) = self.round {
             let k = (height - start) / LENGTH;
             let seeded = self.before.first().is_some_and(votes_fork);
@@ -73,7 +70,7 @@ fn tables_agree(state: &State) -> bool {
 
 /// Some 450 epochs, with refused records between them. Answers how often the version rose, and how many were refused.
 fn run(seed: u64, eager: usize) -> (i32, u32) {
-    let (mut random, mut s, mut refused) = (Random::new(seed), Stream::mainnet(), 0);
+    let (mut random, mut s, mut refused) = (Random(seed), Stream::mainnet(), 0);
     let mut book = Book { version: 1, round: None, before: Vec::new() };
     for _ in 0..450 {
         let height = s.state.next;

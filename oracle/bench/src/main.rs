@@ -42,8 +42,7 @@ fn replay_rust(records: &[Vec<u8>]) {
 }
 
 fn replay_port(records: &[Vec<u8>]) {
-    let table = Table::default_parameters(Network::Mainnet);
-    let mut state = State::open(FIRST_HEIGHT, &table).expect("an opening at 1,024");
+    let mut state = State::open(FIRST_HEIGHT, &Table::default_parameters(Network::Mainnet)).expect("an opening at 1,024");
     records.iter().for_each(|record| state.replay(record).expect("a record that is accepted"));
     assert_eq!(state.next_height() as usize, (EPOCHS + 1) * HEADERS);
 }
@@ -51,10 +50,8 @@ fn replay_port(records: &[Vec<u8>]) {
 fn end_to_end(stream: &Timed, folder: &Path) -> io::Result<()> {
     let path = folder.join(stream.name).with_extension("records");
     fs::write(&path, stream.records.concat())?;
-    let [replay, sha] = [("target/bin/replay", vec![]), ("sha256sum", vec![&path])].map(|(program, arguments)| {
-        let seconds = best(|| run(program, &arguments, &path));
-        seconds * 1e3
-    });
+    let programs = [("target/bin/replay", vec![]), ("sha256sum", vec![&path])];
+    let [replay, sha] = programs.map(|(program, arguments)| 1e3 * best(|| run(program, &arguments, &path)));
     println!("{}: replay {replay:.1} ms, sha256sum {sha:.1} ms, ratio {:.1}", stream.name, sha / replay);
     Ok(())
 }

@@ -21,14 +21,14 @@ pub const VOTING: [(&str, usize); 3] = [("quiet", 0), ("mixed", 10), ("full", 10
 
 pub fn all() -> [Timed; 3] {
     VOTING.map(|(name, voting)| {
-        let (mut stream, mut random) = (Stream::mainnet(), Random::new(1));
+        let (mut stream, mut random) = (Stream::mainnet(), Random(1));
         Timed { name, records: (0..EPOCHS).map(|_| record(&mut stream, &mut random, voting)).collect() }
     })
 }
 
 /// So many headers without records.
 pub fn headers_alone(count: usize, voting: usize) -> Vec<Votes> {
-    let mut random = Random::new(1);
+    let mut random = Random(1);
     (0..count).map(|_| header(&mut random, voting)).collect()
 }
 

@@ -12,6 +12,7 @@ use crate::report::Report;
 
 const MOST: usize = 65_536;
 const INPUT_LONG: u8 = 22;
+const UPDATE: &str = "encode_validation_settings_update";
 const HEADER_ID: [u8; 32] = [0xa5; 32];
 
 pub fn run(report: &mut Report, random: &mut Random) {
@@ -28,15 +29,11 @@ fn compare(report: &mut Report, items: usize, call: Call) {
     }
 }
 
-fn update_to_write(lists: [Vec<u8>; 5]) -> Call {
-    Call::new("encode_validation_settings_update", lists)
-}
-
 fn rules_to_write(report: &mut Report, random: &mut Random) {
     for count in [32_769, MOST - 1, MOST, MOST + 1] {
         let rules: Vec<u8> = (0..count).flat_map(|_| (random.number() as u16).to_be_bytes()).collect();
         compare(report, count, Call::new("encode_disabled_rules", [rules.clone()]));
-        compare(report, count, update_to_write([rules, vec![], vec![], vec![], vec![]]));
+        compare(report, count, Call::new(UPDATE, [rules, vec![], vec![], vec![], vec![]]));
     }
 }
 
@@ -44,11 +41,11 @@ fn rules_to_write(report: &mut Report, random: &mut Random) {
 fn statuses_to_write(report: &mut Report, random: &mut Random) {
     for count in [32_769, MOST - 1, MOST, MOST + 1] {
         let ids = (0..count).flat_map(|_| (1_000 + random.below(128) as i16).to_be_bytes()).collect();
-        compare(report, count, update_to_write([vec![], ids, random.bytes(count), vec![0; 4 * count], vec![]]));
+        compare(report, count, Call::new(UPDATE, [vec![], ids, random.bytes(count), vec![0; 4 * count], vec![]]));
     }
     for size in [MOST - 1, MOST] {
         let lists = [vec![], 1_000i16.to_be_bytes().into(), vec![9], numbers(&[size]), random.bytes(size)];
-        compare(report, size + 1, update_to_write(lists));
+        compare(report, size + 1, Call::new(UPDATE, lists));
     }
 }
 
@@ -71,10 +68,9 @@ fn parameters(report: &mut Report, random: &mut Random) {
 fn boundaries(report: &mut Report, random: &mut Random) {
     for count in [MOST, MOST + 1, 70_000, 200_000] {
         let ids = [1, 2, 3, 4, 5, 6, 7, 8, 120, 121, -1, -2, -3, -4, -5, -6, -7, -8];
-        let mut tally: Vec<(i8, u32)> = (0..count).map(|_| (random.pick(&ids), random.near(512))).collect();
+        let tally: Vec<(i8, u32)> = (0..count).map(|_| (random.pick(&ids), random.near(512))).collect();
         report.compare(&boundaries::rising(&tally, Vec::new()));
-        tally.push((10, 513));
-        report.compare(&boundaries::rising(&tally, Vec::new()));
+        report.compare(&boundaries::rising(&[tally, vec![(10, 513)]].concat(), Vec::new()));
     }
     [MOST, MOST + 1].into_iter().for_each(|size| compare(report, size, boundaries::rising(&[], long_update(size))));
 }
@@ -117,10 +113,8 @@ fn votes(report: &mut Report, random: &mut Random) {
         let [first, boundary] = [0, count].map(|number| numbers(&[number]));
         compare(report, count, Call::new("tally_votes_seeded", [first, window, boundary.clone(), boundary]));
     }
-    for count in [MOST + 1, 70_000] {
-        let mut headers: Vec<u8> = (0..count).flat_map(|_| random.pick(&[[1, 2, 120], [0, 0, 0], [0xff, 0, 2]])).collect();
-        report.compare(&Call::new("check_headers", [headers.clone()]));
-        headers[3 * count - 1] = 128;
-        report.compare(&Call::new("check_headers", [headers]));
+    for (count, last) in [(MOST, 0), (MOST, 128), (69_999, 0), (69_999, 128)] {
+        let legal = (0..count).flat_map(|_| random.pick(&[[1, 2, 120], [0, 0, 0], [0xff, 0, 2]]));
+        report.compare(&Call::new("check_headers", [legal.chain([0, 0, last]).collect()]));
     }
 }

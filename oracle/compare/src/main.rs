@@ -14,7 +14,7 @@ mod windows;
 use std::process::ExitCode;
 
 use oracle::inputs::random::Random;
-use oracle::inputs::{Kind, KINDS};
+use oracle::inputs::KINDS;
 use report::Report;
 
 type Run = fn(&mut Report, &mut Random);
@@ -40,13 +40,13 @@ fn main() -> ExitCode {
     let (mut all, mut whole) = (Report::default(), true);
     let mut print = |name: &str, run: &dyn Fn(&mut Report, &mut Random)| {
         let mut report = Report::default();
-        run(&mut report, &mut Random::new(seed));
+        run(&mut report, &mut Random(seed));
         println!("{name}: {report}");
         whole &= report.compared > 0;
         all.add(&report);
     };
     OTHERS.iter().for_each(|(name, run)| print(name, run));
-    for Kind { name, times, make } in KINDS {
+    for (name, times, make) in KINDS {
         print(name, &|report, random| (0..times).flat_map(|_| make(random)).for_each(|call| report.compare(&call)));
     }
     println!("{all}");

@@ -21,11 +21,8 @@ pub fn run(report: &mut Report, random: &mut Random) {
         let either = |answer: &Answer| matches!(answer.number, 13 | 14);
         other_number += u64::from(one.number != other.number);
         report.count(one == other || either(&one) && either(&other), || {
-            [
-                calls.each_ref().map(text::call).join(" and "),
-                [&one, &other].map(text::answer).join(" and "),
-                "not asked; the rules say that the two are the same".to_owned(),
-            ]
+            let rust = [&one, &other].map(text::answer).join(" and ");
+            [calls.each_ref().map(text::call).join(" and "), rust, "not asked; the rules say that they are the same".to_owned()]
         });
     }
     assert!(other_number > 0, "no tally was refused by 13 in one order and by 14 in the other");

@@ -86,11 +86,7 @@ fn moved(id: i8, value: i32, before: &[Votes], met: &mut BTreeSet<usize>) -> i32
 
 /// The headers that vote so, if the first one does.
 fn counted(vote: u8, headers: &[Votes]) -> usize {
-    if headers.first().is_some_and(|first| first.contains(&vote)) {
-        voting(vote, headers)
-    } else {
-        0
-    }
+    headers.first().filter(|first| first.contains(&vote)).map_or(0, |_| voting(vote, headers))
 }
 
 fn voting(vote: u8, headers: &[Votes]) -> usize {

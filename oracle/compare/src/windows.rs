@@ -109,11 +109,9 @@ fn check(votes: Votes) -> i64 {
 /// Headers of more than three windows: mixed ones, then so many that are alike that their support reaches the length, then mixed
 /// ones, by which it falls.
 fn headers(random: &mut Random, places: usize) -> Vec<Votes> {
-    let count = (2 * places).max(2_000);
-    let mut headers: Vec<Votes> = (0..count).map(|_| header(random)).collect();
-    headers.extend(vec![legal(random); places + 100]);
-    headers.extend((0..count).map(|_| header(random)));
-    headers
+    let (count, alike) = ((2 * places).max(2_000), legal(random));
+    let mut mixed = || (0..count).map(|_| header(random)).collect::<Vec<_>>();
+    [mixed(), vec![alike; places + 100], mixed()].concat()
 }
 
 /// No votes, usual ones, any legal ones, those of the other kinds, and any bytes, most of them refused; now and then 0x80.
@@ -134,11 +132,7 @@ fn header(random: &mut Random) -> Votes {
 fn legal(random: &mut Random) -> Votes {
     let mut votes = [random.byte(), random.byte(), random.pick(&[0, 120])];
     votes.rotate_left(random.below(3));
-    if check(votes) == 0 {
-        votes
-    } else {
-        legal(random)
-    }
+    rules::check_header(votes).map_or_else(|_| legal(random), |()| votes)
 }
 
 /// Headers put into windows and cells that no call left, most of them of a few places; a header has now and then fewer bytes or more.

@@ -81,14 +81,13 @@ pub fn several() -> Vec<Call> {
     let same: Map = table::ENTRIES.map(|entry| (entry as i8, 1_000)).into();
     let computed = table::from_map(&same);
     let all: Vec<i8> = same.keys().copied().collect();
-    let mut calls = Vec::new();
-    for ids in [&[1, 123][..], &[9, 121], &[122], &all] {
+    let spoiled = |ids: &[i8]| {
         let (mut less, mut other) = (same.clone(), same.clone());
         less.retain(|id, _| !ids.contains(id));
         other.extend(ids.iter().map(|&id| (id, -1)));
-        calls.extend([matched(&computed, &less), matched(&computed, &other)]);
-    }
-    calls
+        [matched(&computed, &less), matched(&computed, &other)]
+    };
+    [&[1, 123][..], &[9, 121], &[122], &all].map(spoiled).concat()
 }
 
 fn matched(computed: &Parameters, found: &Map) -> Call {

@@ -14,26 +14,20 @@ use random::Random;
 pub type Make = fn(&mut Random) -> Vec<Call>;
 
 /// A kind of inputs, how many times it is made when the two sides are compared, and what makes some of it.
-pub struct Kind {
-    pub name: &'static str,
-    pub times: usize,
-    pub make: Make,
-}
-
-pub const KINDS: [Kind; 15] = [
-    Kind { name: "tallies", times: 100_000, make: voting::tallies },
-    Kind { name: "boundaries", times: 1_000_000, make: boundaries::plain },
-    Kind { name: "boundaries with an update", times: 300_000, make: boundaries::with_update },
-    Kind { name: "boundary over a lent list", times: 1_000_000, make: boundaries::over_list },
-    Kind { name: "fork checks", times: 1_000_000, make: voting::fork_checks },
-    Kind { name: "approvals", times: 300_000, make: voting::approvals },
-    Kind { name: "block versions", times: 300_000, make: voting::block_versions },
-    Kind { name: "bodies", times: 200_000, make: bodies::make },
-    Kind { name: "matches", times: 200_000, make: bodies::matches },
-    Kind { name: "updates", times: 500_000, make: updates::make },
-    Kind { name: "writers", times: 200_000, make: writers::make },
-    Kind { name: "header lists", times: 50_000, make: records::headers },
-    Kind { name: "openings", times: 100_000, make: records::openings },
-    Kind { name: "replays, state by state", times: 3_000, make: records::replays },
-    Kind { name: "lines", times: 200_000, make: records::lines },
+pub const KINDS: [(&str, usize, Make); 15] = [
+    ("tallies", 100_000, voting::tallies),
+    ("boundaries", 1_000_000, boundaries::plain),
+    ("boundaries with an update", 300_000, boundaries::with_update),
+    ("boundary over a lent list", 1_000_000, boundaries::over_list),
+    ("fork checks", 1_000_000, voting::fork_checks),
+    ("approvals", 300_000, voting::approvals),
+    ("block versions", 300_000, voting::block_versions),
+    ("bodies", 200_000, bodies::make),
+    ("matches", 200_000, bodies::matches),
+    ("updates", 500_000, updates::make),
+    ("writers", 200_000, writers::make),
+    ("header lists", 50_000, records::headers),
+    ("openings", 100_000, records::openings),
+    ("replays, state by state", 3_000, records::replays),
+    ("lines", 200_000, records::lines),
 ];

@@ -8,13 +8,10 @@ const EDGES: [u32; 36] = [
     0xffffff7e, 0xffffffff,
 ];
 
-pub struct Random(u64);
+/// Begun with a seed.
+pub struct Random(pub u64);
 
 impl Random {
-    pub fn new(seed: u64) -> Random {
-        Random(seed)
-    }
-
     /// The next 64 bits (splitmix64).
     pub fn bits(&mut self) -> u64 {
         self.0 = self.0.wrapping_add(0x9e37_79b9_7f4a_7c15);

@@ -100,11 +100,8 @@ pub fn replays(random: &mut Random) -> Vec<Call> {
 /// An input of records from mainnet's beginning, with now and then a last one that is damaged, cut or followed by more bytes. Some
 /// begin with the 32 epochs of a round that has just enough votes, or one too few.
 pub fn stream(random: &mut Random) -> Vec<u8> {
-    let mut stream = match random.below(4) {
-        0 => voted_enough([0, 0]),
-        1 => voted_too_few(),
-        _ => Stream::mainnet(),
-    };
+    let begun: [fn() -> Stream; 4] = [|| voted_enough([0, 0]), voted_too_few, Stream::mainnet, Stream::mainnet];
+    let mut stream = random.pick(&begun)();
     for _ in 0..random.pick(&[0, 1, 2, 5, 40, 75]) {
         let record = record(random, &stream.state);
         if stream.offer(&record).is_err() && random.one_in(10) {

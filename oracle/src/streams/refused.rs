@@ -1,7 +1,4 @@
-//! Records that are refused: the last ones of streams, and those of rows alone. Not to be met in a stream from the mainnet defaults:
-//! 16 (no test of the replay), 17, 18 (the settings are mainnet's), 19 (121 and 122 come and go together), 20 (123 is never
-//! removed), 21, 23, 24 (nothing is written), 22 (a body over 32,768 bytes is 25), and 26 past the last height (some two million
-//! records).
+//! Records that are refused: the last ones of streams, and those of rows alone. oracle/README.md says which numbers no stream meets.
 
 use super::accepted::{voted_enough, voted_too_few};
 use super::build::{Parts, Stream, FORK};
@@ -35,7 +32,7 @@ impl Refused {
 
 /// One stream for each number, and more for 15, 25 and 26.
 pub fn streams() -> Vec<Refused> {
-    let mut streams = vec![
+    let streams = [
         refused("r01_31_bytes", 1, |p| p.with_body(&[0; 31])),
         refused("r02_no_count", 2, |p| p.with_body(&[0; 32])),
         refused("r03_two_bytes_of_field", 3, |p| p.with_more(1, &[0, 1])),
@@ -55,9 +52,7 @@ pub fn streams() -> Vec<Refused> {
         refused("r26_height_again", 26, |p| p.with_height(2_048)),
         refused_after(Stream::mainnet(), "r26_first_record", 26, |p| p.with_height(2_048)),
     ];
-    streams.extend(malformed());
-    streams.extend(cut());
-    streams
+    streams.into_iter().chain(malformed()).chain(cut()).collect()
 }
 
 /// For rows alone: records that would be refused by another number, too, and others. 12 of the boundary header, by the old table, comes
@@ -133,9 +128,9 @@ fn replaced(name: &'static str, index: usize, field: impl Fn(&Parts) -> Vec<u8>)
 }
 
 /// Each tag and each length of a record, and a byte behind an accepted one, which begins the next.
-fn malformed() -> Vec<Refused> {
+fn malformed() -> [Refused; 7] {
     let long = |p: &Parts| [p.body(), vec![0; 32_769 - p.body().len()]].concat();
-    vec![
+    [
         replaced("r25_tag_of_height", 0, |p| write_field(0, &p.height.to_be_bytes())),
         replaced("r25_tag_of_body", 1, |p| write_field(4, &p.body())),
         replaced("r25_tag_of_votes", 2, |p| write_field(2, p.votes.as_flattened())),
@@ -147,7 +142,7 @@ fn malformed() -> Vec<Refused> {
 }
 
 /// Input that stops inside a record. Nothing stands behind.
-fn cut() -> Vec<Refused> {
+fn cut() -> [Refused; 7] {
     let record = begun().quiet().bytes();
     let body_end = 10 + begun().quiet().body().len();
     let places = [
@@ -159,5 +154,5 @@ fn cut() -> Vec<Refused> {
         ("r25_cut_in_votes", body_end + 100),
         ("r25_cut_one_byte", record.len() - 1),
     ];
-    places.map(|(name, end)| Refused { record: record[..end].to_vec(), behind: Vec::new(), ..refused(name, 25, |p| p) }).into()
+    places.map(|(name, end)| Refused { record: record[..end].to_vec(), behind: Vec::new(), ..refused(name, 25, |p| p) })
 }

@@ -24,22 +24,13 @@ pub struct Parameters {
 }
 
 impl Parameters {
+    /// The version, and entries 1 to 8 in order.
     #[allow(clippy::too_many_arguments)]
-    pub fn new(
-        block_version: i32,
-        storage_fee_factor: i32,
-        min_value_per_byte: i32,
-        max_block_size: i32,
-        max_block_cost: i32,
-        token_access_cost: i32,
-        input_cost: i32,
-        data_input_cost: i32,
-        output_cost: i32,
-    ) -> Self {
+    pub fn new(version: i32, p1: i32, p2: i32, p3: i32, p4: i32, p5: i32, p6: i32, p7: i32, p8: i32) -> Self {
         use Parameter::*;
-        let ordinary = [StorageFeeFactor, MinValuePerByte, MaxBlockSize, MaxBlockCost, TokenAccessCost, InputCost];
-        let values = [storage_fee_factor, min_value_per_byte, max_block_size, max_block_cost, token_access_cost, input_cost];
-        let last = [(DataInputCost, data_input_cost), (OutputCost, output_cost), (BlockVersion, block_version)];
-        Parameters { parameters_table: ordinary.into_iter().zip(values).chain(last).collect() }
+        let first =
+            [(BlockVersion, version), (StorageFeeFactor, p1), (MinValuePerByte, p2), (MaxBlockSize, p3), (MaxBlockCost, p4)];
+        let rest = [(TokenAccessCost, p5), (InputCost, p6), (DataInputCost, p7), (OutputCost, p8)];
+        Parameters { parameters_table: first.into_iter().chain(rest).collect() }
     }
 }
