@@ -1,4 +1,4 @@
-// The root of the chain crate, which is not among the request's files: only what the three files need.
+// The root of the chain crate, of which only this is needed by the three files.
 
 pub mod config;
 pub mod error;

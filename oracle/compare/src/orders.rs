@@ -8,7 +8,7 @@ use oracle::text;
 
 use crate::report::Report;
 
-const TIMES: usize = 300_000;
+const TIMES: usize = 301_000;
 
 /// Both sides are asked each order, and the Rust's own two answers are compared: only 13 and 14 may stand for each other. Some pairs
 /// must be told apart by them.

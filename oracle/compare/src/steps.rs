@@ -14,7 +14,7 @@ use oracle::text::hex;
 use crate::report::Report;
 
 /// How many lists, and how many records are handed over in each. Thirty years have some 7,700 epochs.
-const LISTS: [(usize, usize); 2] = [(155, 500), (3, 9_000)];
+const LISTS: [(usize, usize); 2] = [(160, 500), (3, 9_000)];
 
 /// More votes than these move a parameter.
 const HALF: usize = 512;

@@ -16,18 +16,18 @@ pub type Make = fn(&mut Random) -> Vec<Call>;
 /// A kind of inputs, how many times it is made when the two sides are compared, and what makes some of it.
 pub const KINDS: [(&str, usize, Make); 15] = [
     ("tallies", 100_000, voting::tallies),
-    ("boundaries", 1_000_000, boundaries::plain),
+    ("boundaries", 1_001_000, boundaries::plain),
     ("boundaries with an update", 300_000, boundaries::with_update),
-    ("boundary over a lent list", 1_000_000, boundaries::over_list),
-    ("fork checks", 1_000_000, voting::fork_checks),
+    ("boundary over a lent list", 1_001_000, boundaries::over_list),
+    ("fork checks", 1_001_000, voting::fork_checks),
     ("approvals", 300_000, voting::approvals),
     ("block versions", 300_000, voting::block_versions),
     ("bodies", 200_000, bodies::make),
     ("matches", 200_000, bodies::matches),
     ("updates", 500_000, updates::make),
-    ("writers", 200_000, writers::make),
+    ("writers", 201_000, writers::make),
     ("header lists", 50_000, records::headers),
     ("openings", 100_000, records::openings),
-    ("replays, state by state", 3_000, records::replays),
+    ("replays, state by state", 3_010, records::replays),
     ("lines", 200_000, records::lines),
 ];
