@@ -111,18 +111,6 @@ impl Row {
             return self;
         }
         self.arguments = k + 1;
-        self.closed()
-    }
-
-    // No answer so far: it would begin and end behind the last argument.
-    fn closed(mut self) -> Row {
-        let k = self.arguments;
-        if ARGUMENTS_MOST < k {
-            return self.unsound();
-        }
-        let mut begins = self.begins;
-        begins[k + 1] = begins[k];
-        self.begins = begins;
         self
     }
 
@@ -145,6 +133,9 @@ impl Row {
 
     // The answer's bytes.
     pub(crate) fn answer(self, bytes: &[u8]) -> &[u8] {
+        if self.next != NOTHING {
+            return &bytes[..0];
+        }
         self.argument(self.arguments, bytes)
     }
 

@@ -108,58 +108,28 @@ fn put_pair(s: &[u8], i: usize, bytes: &mut [u8; 0x8_0000], to: usize) -> usize 
     to + 1
 }
 
-// The bytes between two positions, put again behind them, so many times in all; the position after them, or OUT_OF_FORM.
-fn repeat(bytes: &mut [u8; 0x8_0000], from: usize, to: usize, times: usize) -> usize {
-    let end = end_of(from, to, times);
-    if BYTES_MOST < end {
-        return OUT_OF_FORM;
+// The same so many times.
+fn put_times(s: &[u8], times: usize, bytes: &mut [u8; 0x8_0000], at: usize) -> usize {
+    let mut to = at;
+    let mut left = times;
+    while 0 < left {
+        to = put_hex(s, bytes, to);
+        left -= 1;
     }
-    let mut i = to;
-    while i < end {
-        copy_back(bytes, i, from, to);
-        i += 1;
-    }
-    end
-}
-
-fn end_of(from: usize, to: usize, times: usize) -> usize {
-    if BYTES_MOST < to {
-        return OUT_OF_FORM;
-    }
-    if to < from {
-        return OUT_OF_FORM;
-    }
-    if BYTES_MOST < times {
-        return OUT_OF_FORM;
-    }
-    if times == 0 {
-        return OUT_OF_FORM;
-    }
-    from + (to - from) * times
-}
-
-// The byte that stands as far before a position as two positions are apart.
-fn copy_back(bytes: &mut [u8; 0x8_0000], at: usize, from: usize, to: usize) {
-    if BYTES_MOST <= at {
-        return;
-    }
-    if to < from {
-        return;
-    }
-    if at < to - from {
-        return;
-    }
-    bytes[at] = bytes[at - (to - from)];
+    to
 }
 
 // A piece of a group: bytes, and how often they stand there where it is more than once.
 fn put_piece(s: &[u8], bytes: &mut [u8; 0x8_0000], at: usize) -> usize {
     let star = find(s, 0, b'*', true);
-    let end = put_hex(part(s, 0, star), bytes, at);
     if star == s.len() {
-        return end;
+        return put_hex(s, bytes, at);
     }
-    repeat(bytes, at, end, decimal(part(s, star + 1, s.len())))
+    let times = decimal(part(s, star + 1, s.len()));
+    if (times == 0) | (BYTES_MOST < times) {
+        return OUT_OF_FORM;
+    }
+    put_times(part(s, 0, star), times, bytes, at)
 }
 
 // A group: a dash for no bytes, or pieces with + between them; put at a position. The position after them, or OUT_OF_FORM.
