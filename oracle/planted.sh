@@ -48,6 +48,9 @@ differing() {
     grep -c '^differs: compute_boundary_parameters' "$folder/report" || true
 }
 
+# Without a fault none differs.
+test "$(differing '$a // No fault.')" = 0
+
 for fault in "${faults[@]}"; do
     count=$(differing "${fault#*$'\n'}")
     echo "${fault%%$'\n'*}: $count differ"
