@@ -200,25 +200,25 @@ def printed(stream):
 
 class Values(Case):
     def test_tables_and_states(self):
-        table = Table().with_entry(9, -1).with_entry(123, -(2**31)).with_entry(1, 7).with_entry(1, None)
-        self.assertEqual([table.get(id) for id in (1, 9, 10, 123)], [None, -1, None, -(2**31)])
+        table = Table().with_entry(9, -1).with_entry(9, None).with_entry(1, -2)
+        self.assertEqual((Table.from_bytes(b"\x09\xff\xff\xff\xfe" + bytes(55)), table.get(10)), (table, None))
         self.assertEqual([Table((*range(12),)).get(id) for id in (*range(1, 10), 121, 122, 123)], [*range(12)])
         settings = Settings(voting_length=1, soft_fork_epochs=2, activation_epochs=3, version2_activation_height=4)
         self.assertEqual(settings.to_bytes(), struct.pack(">4I", 1, 2, 3, 4))
         state = State.open(1_024, MAINNET)
         self.assertEqual((state.settings, state.table, state.next_height), (Settings.of(Network.MAINNET), MAINNET, 1_024))
-        state.replay(QUIET[:-MAINNET_VOTES_SIZE] + bytes((0, 1, 0, 1, 0, 0)) + QUIET[6 - MAINNET_VOTES_SIZE :])
-        self.assertEqual((state.next_height, state.tally.entries()), (2_048, [Entry(1, 2)]))
+        state.replay(QUIET[:-MAINNET_VOTES_SIZE] + bytes((0, 255, 0, 255, 0, 0)) + QUIET[6 - MAINNET_VOTES_SIZE :])
+        self.assertEqual((state.next_height, state.tally.entries()), (2_048, [Entry(-1, 2)]))
 
     def test_what_is_raised(self):
         self.assertEqual(str(Refused(15, 3)), "refused by 15: a computed entry is missing or different in the extension: id 3")
         self.assertRaises(KeyError, MAINNET.with_entry, 120, 1)
         self.assertRaises(ValueError, Table.from_bytes, bytes(59))
         self.assertRaises(ValueError, State, bytes(96))
-        self.assertRaises(ValueError, ergo.check_header_votes, bytes(2))
+        for function in (ergo.check_header_votes, ergo.next_legal_votes, Window(1).put):
+            self.assertRaises(ValueError, function, bytes(2))
         self.assertRaises(ValueError, ergo.pack_extension_bytes, bytes(31), [])
-        self.assertRaises(ValueError, Window(1).put, bytes(2))
-        self.assertRaises(OverflowError, Window, 2**32)
+        self.assertRaises(ValueError, ergo.pack_extension_bytes, ID, [Field(b"\1", b"")])
         self.assertRaises(OverflowError, State.open, -1, MAINNET)
         self.assertRaises(OverflowError, ergo.check_block_version, MAINNET.with_entry(1, 2**31), 1)
 
@@ -226,10 +226,11 @@ class Values(Case):
         update = Update([215, 409], [Status(1_000, 9, b"\7\7"), Status(32_767, 9, b"")])
         data = ergo.encode_validation_settings_update(update.rules, update.statuses)
         self.assertEqual(ergo.parse_validation_settings_update(data), update)
-        fields = [Field(b"\2\3", b""), Field(b"\0\x7c", bytes(64))]
+        parameters = {id: -id for id in range(-128, 128) if id != 124}
+        fields = [Field(b"\2\3", b""), Field(b"\0\x7c", bytes(64)), *ergo.pack_parameters_to_kv(parameters)]
         body = ergo.pack_extension_bytes(ID, fields)
-        self.assertEqual(ergo.parse_extension_bytes(body), Extension(ID, fields))
-        self.assertEqual(ergo.extract_disabling_rules_from_kv(body), bytes(64))
+        read = ergo.parse_extension_bytes(body), ergo.parse_parameters_from_kv(body), ergo.extract_disabling_rules_from_kv(body)
+        self.assertEqual(read, (Extension(ID, fields), parameters, bytes(64)))
         self.refused(Refusal.WRITTEN_VALUE_LONG, ergo.pack_extension_bytes, ID, [Field(b"\2\3", bytes(256))])
 
     def test_every_legal_header(self):
@@ -281,7 +282,6 @@ class Support(Case):
         self.assertEqual([call("ergo_window_new", 0, short), call("ergo_window_new", 2, short)], [-33, -21])
         window = call("ergo_window_new", 2, cells)
         self.assertEqual((window, {*cells[:-1]}, {cells[-1], *short}), (2 << 32, {0}, {0xEEEE}))
-        self.assertEqual(call("ergo_window_put", window, array("H"), bytes((1, 1, 0))), -10)  # before 21
         for number in (0, 2, 1 << 16, (2 << 32) + 2, 4_097 << 32, 0xFFFF << 32):  # no windows
             self.assertEqual((call("ergo_window_put", number, cells, FORK), {*cells[:-1]}), (-21, {0}))
         window = call("ergo_window_put", window | 0xFFFF << 48, cells, FORK[:1])  # bits from 48 up are not looked at

@@ -1,6 +1,6 @@
 //! What rows can't say: bytes that are missing, names and parts of values, lists there and back, orders of entries, a stream.
 
-use ergo_voting::ffi::{ergo_check_block_version, ergo_check_header_votes, ergo_replay, ergo_soft_fork_approved};
+use ergo_voting::ffi::{ergo_check_block_version, ergo_check_header_votes, ergo_replay};
 use ergo_voting::*;
 
 const QUIET: &[u8] = include_bytes!("../../../crates/replay/stdin");
@@ -25,7 +25,6 @@ fn every_legal_header() {
 #[test]
 fn a_byte_past_the_end_counts_as_0() {
     assert_eq!([&[1, 1][..], &[], &[1, 2, 0, 1]].map(ergo_check_header_votes), [10, 0, 0], "the fourth is not looked at");
-    assert_eq!([0, 1].map(|votes| ergo_soft_fork_approved(&[], votes)), [0, 1]);
     assert_eq!([0, 59, 60].map(|size| ergo_check_block_version(&mainnet().to_bytes()[..size], 1)), [20, 16, 0]);
     let mut state = State::open(1_024, &mainnet()).expect("an opening").to_bytes();
     assert_eq!([94, 95].map(|size| ergo_replay(&mut state[..size], QUIET)), [21, 0]);
@@ -39,6 +38,7 @@ fn tables_and_settings() {
     let bytes = table.to_bytes().map(|byte| if byte == 1 { 9 } else { byte });
     assert_eq!((Table::from_bytes(&bytes), ids.map(|id| table.get(id))), (table, ids.map(|id| Some(-i32::from(id)))));
     assert_eq!([0, 10, 120, 124, 255].map(|id| (table.get(id), table.with(id, Some(1)))), [(None, None); 5]);
+    assert_eq!(epoch_line(u32::MAX, &with(table, &[121, 122, 123].map(|id| (id, i32::MIN)))).len(), LONGEST_LINE);
     let settings = Settings { voting_length: 1, soft_fork_epochs: 2, activation_epochs: 3, version2_activation_height: 4 };
     assert_eq!(settings.to_bytes(), [0, 0, 0, 1, 0, 0, 0, 2, 0, 0, 0, 3, 0, 0, 0, 4]);
 }
@@ -48,7 +48,7 @@ fn records_and_states() {
     let (votes, mut state) = (QUIET.len() - MAINNET_VOTES_SIZE, State::open(1_024, &mainnet()).expect("an opening"));
     let RecordAt::Whole(record) = read_record(QUIET, MAINNET_VOTES_SIZE) else { panic!("a record") };
     assert_eq!((record.height, record.body, record.votes), (1_024, &QUIET[10..votes - 3], &QUIET[votes..]));
-    assert_eq!(read_record(&[2], MAINNET_VOTES_SIZE), RecordAt::Malformed);
+    assert_eq!([&[][..], &[2]].map(|bytes| read_record(bytes, MAINNET_VOTES_SIZE)), [RecordAt::Short(3), RecordAt::Malformed]);
     assert_eq!(Refusal::EntryDiffers { id: 3 }.to_string(), "a computed entry is missing or different in the extension: id 3");
     assert_eq!((state.settings(), state.table(), state.next_height()), (Settings::of(Network::Mainnet), mainnet(), 1_024));
     assert_eq!(state.replay(&[&QUIET[..votes], &[0, 255, 0, 255, 0, 0], &QUIET[votes + 6..]].concat()), Ok(()));
@@ -64,7 +64,7 @@ fn bodies_and_updates_there_and_back() {
     assert_eq!((read.header_id(), read.fields(), extract_disabling_rules_from_kv(&body)), (ID, fields, vec![7; 64]));
     assert_eq!(pack_extension_bytes(&ID, &[field(256)]), Err(Refusal::WrittenValueLong));
     let status = |rule, raw: &[u8]| Status { rule, code: 9, raw: raw.to_vec() };
-    let (rules, statuses) = (vec![215, 409], vec![status(1_000, &[7, 8]), status(32_767, &[])]);
+    let (rules, statuses) = (vec![u16::MAX; 9], vec![status(1_000, &[7, 8]), status(32_767, &[])]);
     let bytes = encode_validation_settings_update(&rules, &statuses).expect("an update");
     let read = parse_validation_settings_update(&bytes).expect("an update");
     assert_eq!((read.rules(), read.statuses()), (rules, statuses));
