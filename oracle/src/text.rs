@@ -59,24 +59,24 @@ pub fn read(line: &str, names: &[&'static str]) -> Option<(Call, Answer)> {
     let word = words.next()?;
     let name = *names.iter().find(|name| **name == word)?;
     let arguments = words.map(bytes).collect::<Option<_>>()?;
-    let (number, told) = given.split_once(' ').map_or((given, Some(Vec::new())), |(number, word)| (number, bytes(word)));
-    let number = number.parse().ok().filter(|_| number.len() == 2)?;
-    Some((Call { name, arguments }, Answer { number, bytes: told? }))
+    let (number, told) = given.split_at_checked(2).filter(|(number, _)| number.bytes().all(|digit| digit.is_ascii_digit()))?;
+    let bytes = if told.is_empty() { Vec::new() } else { pieces(told.strip_prefix(' ')?)? };
+    Some((Call { name, arguments }, Answer { number: number.parse().ok()?, bytes }))
 }
 
-/// None where the word is out of form.
 fn bytes(word: &str) -> Option<Vec<u8>> {
-    if word == "-" {
-        return Some(Vec::new());
-    }
-    word.split('+').map(piece).collect::<Option<Vec<_>>>().map(|pieces| pieces.concat())
+    Some(word).filter(|word| *word != "-").map_or(Some(Vec::new()), pieces)
 }
 
-fn piece(word: &str) -> Option<Vec<u8>> {
-    let (word, times) = word.split_once('*').unwrap_or((word, "1"));
+/// Pieces with `+` between them: hexadecimal bytes, or such bytes, `*` and how many times they stand there.
+fn pieces(word: &str) -> Option<Vec<u8>> {
     let digit = |c: char| c.to_digit(16).filter(|_| !c.is_ascii_uppercase()).map(|digit| digit as u8);
-    let digits = word.chars().map(digit).collect::<Option<Vec<_>>>()?;
-    let whole = !digits.is_empty() && digits.len().is_multiple_of(2);
-    let times: usize = times.parse().ok().filter(|times| whole && *times > 0)?;
-    Some(digits.chunks(2).map(|pair| 16 * pair[0] + pair[1]).collect::<Vec<_>>().repeat(times))
+    let piece = |text: &str| {
+        let (digits, times) = text.split_once('*').unwrap_or((text, "1"));
+        let digits: Vec<u8> = digits.chars().map(digit).collect::<Option<_>>()?;
+        let (pairs, left) = digits.as_chunks::<2>();
+        let bytes: Vec<u8> = pairs.iter().map(|[high, low]| 16 * high + low).collect();
+        (left.is_empty() && !bytes.is_empty()).then_some(bytes.repeat(times.parse().ok()?))
+    };
+    word.split('+').map(piece).collect::<Option<Vec<_>>>().map(|pieces| pieces.concat())
 }

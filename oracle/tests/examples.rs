@@ -32,16 +32,12 @@ fn ends_of_streams() {
 fn rows_are_read_back() {
     let names = ["check_body", "check_parameters_v6"];
     let call = Call::new(names[1], [vec![0, 255], Vec::new()]);
+    let read = |line: &str| text::read(line, &names);
     let row = text::row(&call, &Answer { number: 15, bytes: vec![0x7b] });
     assert_eq!(row, "check_parameters_v6 00ff - = 15 7b\n");
-    assert_eq!(text::read(row.trim_end(), &names), Some((call, Answer { number: 15, bytes: vec![0x7b] })));
-    assert_eq!(
-        text::read("check_body - = 01", &names),
-        Some((Call::new(names[0], [vec![]]), Answer { number: 1, bytes: vec![] }))
-    );
-    for wrong in
-        ["check_body - = 1", "check_body 0 = 01", "check_body -  = 01", "check_body - =01", "body - = 01", "check_body - = 00 "]
-    {
-        assert_eq!(text::read(wrong, &names), None, "{wrong}");
+    assert_eq!(read(row.trim_end()), Some((call, Answer { number: 15, bytes: vec![0x7b] })));
+    assert_eq!(read("check_body 00*2+01 = 01").map(|(call, _)| call.arguments), Some(vec![vec![0, 0, 1]]));
+    for wrong in ["- = 1", "0 = 01", "-  = 01", "- =01", "A0 = 01", "00*x = 01", "00+ = 01", "- = 00 ", "- = 00 -", "- = +1"] {
+        assert_eq!(read(&format!("check_body {wrong}")), None, "{wrong}");
     }
 }

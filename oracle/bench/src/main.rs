@@ -16,8 +16,6 @@ use oracle::replay::open_mainnet;
 use streams::{Timed, EPOCHS};
 use timing::{best, RUNS};
 
-const FIRST_HEIGHT: u32 = 1_024;
-
 fn main() -> io::Result<()> {
     let streams = streams::all();
     println!("{EPOCHS} epochs in memory, the best of {RUNS} runs; no buffer is cleared between runs");
@@ -42,7 +40,7 @@ fn replay_rust(records: &[Vec<u8>]) {
 }
 
 fn replay_port(records: &[Vec<u8>]) {
-    let mut state = State::open(FIRST_HEIGHT, &Table::default_parameters(Network::Mainnet)).expect("an opening at 1,024");
+    let mut state = State::open(HEADERS as u32, &Table::default_parameters(Network::Mainnet)).expect("an opening at 1,024");
     records.iter().for_each(|record| state.replay(record).expect("a record that is accepted"));
     assert_eq!(state.next_height() as usize, (EPOCHS + 1) * HEADERS);
 }

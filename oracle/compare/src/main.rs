@@ -43,7 +43,9 @@ fn main() -> ExitCode {
         run(&mut report, &mut Random(seed));
         println!("{name}: {report}");
         whole &= report.compared > 0;
-        all.add(&report);
+        all.compared += report.compared;
+        all.differ += report.differ;
+        all.outside += report.outside;
     };
     OTHERS.iter().for_each(|(name, run)| print(name, run));
     for (name, times, make) in KINDS {

@@ -15,7 +15,7 @@ const MOST_PRINTED: usize = 20_000;
 pub struct Report {
     pub compared: u64,
     pub differ: u64,
-    outside: u64,
+    pub outside: u64,
     shortest: Option<Difference>,
 }
 
@@ -23,12 +23,6 @@ pub struct Report {
 type Difference = [String; 3];
 
 impl Report {
-    pub fn add(&mut self, other: &Report) {
-        self.compared += other.compared;
-        self.differ += other.differ;
-        self.outside += other.outside;
-    }
-
     /// Hands a call to both sides.
     pub fn compare(&mut self, call: &Call) {
         self.compare_with(call, answer(call));
