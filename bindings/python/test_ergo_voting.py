@@ -166,7 +166,8 @@ class Rows(Case):
         for before, met, after in lengths:
             out, rest = bytearray(before), iter(parts)
             answer = call("ergo_" + name, *(out if kind == CELLS else given(kind, next(rest)) for kind in kinds))
-            self.assertEqual((answer, out), (said(name, met, data), after))
+            self.assertEqual(answer, said(name, met, data))
+            self.assertEqual(out, after)
 
     def ask(self, file):
         """Asks each row, and answers the calls that were asked by their types."""
@@ -213,9 +214,7 @@ class Values(Case):
     def test_what_is_raised(self):
         self.assertEqual(str(Refused(15, 3)), "refused by 15: a computed entry is missing or different in the extension: id 3")
         self.assertRaises(KeyError, MAINNET.with_entry, 120, 1)
-        self.assertRaises(ValueError, Table.from_bytes, bytes(59))
-        self.assertRaises(ValueError, State, bytes(96))
-        for function in (ergo.check_header_votes, ergo.next_legal_votes, Window(1).put):
+        for function in (ergo.check_header_votes, ergo.next_legal_votes, Window(1).put, Table.from_bytes, State):
             self.assertRaises(ValueError, function, bytes(2))
         self.assertRaises(ValueError, ergo.pack_extension_bytes, bytes(31), [])
         self.assertRaises(ValueError, ergo.pack_extension_bytes, ID, [Field(b"\1", b"")])
