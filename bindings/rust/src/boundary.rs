@@ -2,11 +2,11 @@
 
 use crate::body::{parameters_bytes, Parameters};
 use crate::bytes::part;
+use crate::entry::Entry;
 use crate::ffi;
 use crate::refusal::{accepted, accepted_with_id, Refusal};
 use crate::settings::Settings;
 use crate::table::{Table, TABLE_SIZE};
-use crate::tally::Entry;
 use crate::update::{Update, UPDATE_SIZE};
 
 const COMPUTED_SIZE: usize = TABLE_SIZE + UPDATE_SIZE;

@@ -3,7 +3,7 @@
 //! bindings/c/ergo_voting.h says what each does, in which bytes, and what it answers. A `usize` of theirs that can be minus a
 //! refusal's number is an `i64` here. No function asks anything of its caller, so all of them are safe.
 
-use crate::tally::Entry;
+use crate::entry::Entry;
 
 /// Declares functions of the library, and under the same name safe ones over them. A slice crosses as its pointer and its length.
 macro_rules! library {

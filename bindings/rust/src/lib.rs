@@ -20,6 +20,7 @@ pub mod ffi;
 mod body;
 mod boundary;
 mod bytes;
+mod entry;
 mod limits;
 mod records;
 mod refusal;
@@ -38,6 +39,7 @@ pub use body::{
 };
 pub use boundary::{check_block_version, check_parameters_v6, compute_boundary_parameters, Computed};
 pub use bytes::Section;
+pub use entry::Entry;
 pub use limits::{parameter_max, parameter_min, parameter_step};
 pub use records::{
     end_line, epoch_line, head_line, read_record, write_end, write_epoch, write_head, Record, RecordAt, LONGEST_LINE,
@@ -47,7 +49,7 @@ pub use refusal::Refusal;
 pub use settings::{Settings, SETTINGS_SIZE};
 pub use state::{State, STATE_SIZE};
 pub use table::{Network, Table, TABLE_SIZE};
-pub use tally::{tally_votes_seeded, Entry, Tally, TALLY_SIZE};
+pub use tally::{tally_votes_seeded, Tally, TALLY_SIZE};
 pub use update::{
     parse_validation_settings_update, rule_at, rule_may_not_be_disabled, status_at, RulePlace, Status, StatusPlace, Update,
 };

@@ -1,23 +1,13 @@
 //! Tallies of votes.
 
 use crate::bytes::number;
+use crate::entry::Entry;
 use crate::ffi;
 use crate::refusal::{accepted, Refusal};
 
 pub const TALLY_SIZE: usize = 15;
 
 const ENTRY_SIZE: usize = 5;
-
-/// How often an id was voted, as the library reads it.
-#[repr(C)]
-#[derive(Debug, Clone, Copy, Default, PartialEq, Eq, Hash)]
-pub struct Entry {
-    pub id: i8,
-    pub count: u32,
-}
-
-const _: () = assert!(std::mem::size_of::<Entry>() == 8 && std::mem::align_of::<Entry>() == 4);
-const _: () = assert!(std::mem::offset_of!(Entry, id) == 0 && std::mem::offset_of!(Entry, count) == 4);
 
 /// A place for each vote of the header that seeded the tally; one with id 0 holds no entry.
 #[derive(Debug, Clone, Copy, Default, PartialEq, Eq, Hash)]
