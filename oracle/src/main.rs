@@ -1,5 +1,6 @@
-//! `oracle rows FILE`, `oracle check FILE..`, `oracle streams FOLDER`, `oracle listing`, `oracle replay`.
+//! `oracle record CRATES`, `oracle check FILE..`, `oracle replay`.
 
+use std::fs::File;
 use std::io::{self, BufWriter, Read};
 use std::path::Path;
 use std::process::ExitCode;
@@ -9,17 +10,15 @@ use oracle::{listing, replay, rows, streams};
 fn main() -> io::Result<ExitCode> {
     let arguments: Vec<String> = std::env::args().skip(1).collect();
     match arguments.iter().map(String::as_str).collect::<Vec<_>>()[..] {
-        ["rows", file] => print_lines(&rows::write(Path::new(file))?),
+        ["record", crates] => record(Path::new(crates))?,
         ["check", ref files @ ..] if !files.is_empty() => return check(files),
-        ["streams", folder] => print_lines(&streams::write(Path::new(folder))?),
-        ["listing"] => listing::write(&mut BufWriter::new(io::stdout().lock()))?,
         ["replay"] => {
             let mut bytes = Vec::new();
             io::stdin().read_to_end(&mut bytes)?;
             print!("{}", replay::replay_stream(&bytes));
         }
         _ => {
-            eprintln!("oracle rows FILE | oracle check FILE.. | oracle streams FOLDER | oracle listing | oracle replay");
+            eprintln!("oracle record CRATES | oracle check FILE.. | oracle replay");
             return Ok(ExitCode::from(2));
         }
     }
@@ -28,6 +27,13 @@ fn main() -> io::Result<ExitCode> {
 
 fn print_lines(lines: &[String]) {
     lines.iter().for_each(|line| println!("{line}"));
+}
+
+/// Writes all that is recorded of the Rust, in the folder of the repository's crates.
+fn record(crates: &Path) -> io::Result<()> {
+    print_lines(&rows::write(&crates.join("vectors/data/rust.rows"))?);
+    print_lines(&streams::write(&crates.join("replay_streams/data"))?);
+    listing::write(&mut BufWriter::new(File::create(crates.join("legal_votes/stdout"))?))
 }
 
 /// Fails where a row differs.
