@@ -10,6 +10,7 @@ use Rattle.codec.specs.Refusal.{bodyShort, countUnreadable, fieldHeaderCut, val
 use Rattle.codec.specs.Vlq.{vlqAt}
 use Rattle.codec.specs.declared.vlq.Read.{Read}
 use Rattle.codec.specs.declared.vlq.Read.the-variants.{Value, Unreadable}
+use Rattle.voting.specs.Common.{gate}
 use Rattle.extension.specs.declared.section.Parsed.{Parsed}
 use Rattle.extension.specs.declared.body.FieldAt.{FieldAt}
 use Rattle.extension.specs.declared.body.FieldAt.the-variants.{HasField, NoField}
@@ -90,6 +91,13 @@ wrongSize key0 key1 size = parameterKey key0 key1 && not (eqb size 4)
 unfoldable pub wrongParameter : Field → Bool
 wrongParameter f = wrongSize (f .key0) (f .key1) (length (f .value))
 
--- 6 comes after 1 to 5 over all fields
+-- 6 where a parameter has another size
+unfoldable pub sizesRefusal : List Field → ℕ
+sizesRefusal fs = cond (any wrongParameter fs) parameterSize 0
+
+-- 22, 1 to 5 over all fields, and then 6
 unfoldable pub checkBody : List ℕ → Parsed
-checkBody body = cond (any wrongParameter (fieldsOf body)) (refusedSection parameterSize) (extensionOf body)
+checkBody body =
+    gate refusedSection (extensionOf body .refusal)
+    (gate refusedSection (sizesRefusal (fieldsOf body))
+    (extensionOf body))

@@ -15,6 +15,10 @@ use Rattle.extension.specs.declared.update.ParsedUpdate.{ParsedUpdate}
 use Rattle.extension.specs.declared.boundary.Computed.{Computed}
 use Rattle.extension.specs.Update.{noUpdate, updateOf, disables}
 
+-- the rule under which entry 9 is not set by itself
+abbrev pub subblocksRule : ℕ
+subblocksRule = 409
+
 -- the update is activated where the round raises the version, else the activated one is empty
 unfoldable pub activates : Update → Boundary → Computed
 activates u b = record { refusal = b .refusal; table = b .table; round = b .round; activated = cond (b .round .rose) u noUpdate }
@@ -22,7 +26,7 @@ activates u b = record { refusal = b .refusal; table = b .table; round = b .roun
 -- 22, 7 or 8 come first, and leave the table as it was
 unfoldable pub withUpdate : VotingConfig → ℕ → Table → List Entry → Bool → List ℕ → ParsedUpdate → Computed
 withUpdate g height t tally vote s x =
-    cond (eqb (x .refusal) 0) (activates (x .update) (boundaryOf g height t tally vote (disables s (x .update) 409)))
+    cond (eqb (x .refusal) 0) (activates (x .update) (boundaryOf g height t tally vote (disables s (x .update) subblocksRule)))
     (record { refusal = x .refusal; table = t; round = noRound; activated = noUpdate })
 
 unfoldable pub computedOf : VotingConfig → ℕ → Table → List Entry → Bool → List ℕ → Computed

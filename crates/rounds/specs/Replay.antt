@@ -12,7 +12,7 @@ use Rattle.voting.specs.declared.fork.ForkVote.the-variants.{Allowed}
 use Rattle.voting.specs.Settings.{votingLength}
 use Rattle.voting.specs.Tally.{headers, seeded, entries, firstCount}
 use Rattle.voting.specs.ForkCheck.{checkRound}
-use Rattle.voting.specs.ForkPart.{roundAt, forkAfter}
+use Rattle.voting.specs.ForkPart.{forkPart}
 use Rattle.voting.specs.Header.{softForkVote, AllLegal}
 use Rattle.rounds.specs.Epochs.{boundaryVotes}
 use Rattle.rounds.specs.Book.{Call, turnedDown, taken}
@@ -71,7 +71,7 @@ pub record Accepted (g : VotingConfig) (m : Replay) (s : m .State) (r : m .Recor
   pub top : m .height r + votingLength g ≤ 2 ^ 31
   pub legal : AllLegal (headers (m .votes r))
   pub check : boundaryVotes (m .votes r) ≡ true → checkRound g (m .height r) (m .fork s .start) (m .fork s .votes) ≡ Allowed
-  pub part : m .fork t ≡ forkAfter g (m .height r) (roundAt g (m .height r) (boundaryVotes (m .votes r)) (m .forkVotes s) (m .fork s) .round) (m .fork s) .fork
+  pub part : m .fork t ≡ forkPart g (m .height r) (boundaryVotes (m .votes r)) (m .forkVotes s) (m .fork s) .fork
   pub next : m .next t ≡ m .height r + votingLength g
   pub brings : m .forkVotes t ≡ firstCount (pos softForkVote) (entries (seeded (m .votes r)))
 

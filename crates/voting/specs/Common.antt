@@ -23,6 +23,11 @@ unfoldable pub first : ℕ → ℕ → ℕ
 first zero m = m
 first (suc n) m = suc n
 
+-- goes on where a refusal's number is 0, else refuses by it
+unfoldable pub gate : {A : Type 0} → (ℕ → A) → ℕ → A → A
+gate refuses zero x = x
+gate refuses (suc n) x = refuses (suc n)
+
 -- a statement of every element of a list
 abbrev pub Each : {A : Type 0} → (A → Type 0) → List A → Type 0
 Each P [] = Unit {0}

@@ -13,7 +13,7 @@ use Rattle.voting.specs.declared.table.Table.{Table}
 use Rattle.voting.specs.declared.fork.ForkVote.{ForkVote}
 use Rattle.voting.specs.declared.fork.ForkVote.the-variants.{Allowed, Barred, Refused}
 use Rattle.voting.specs.Settings.{votingLength, voteEpochs, activationEpochs, softForkApproved, settingsLarge}
-use Rattle.voting.specs.Table.{lookup}
+use Rattle.voting.specs.Table.{idStartingHeight, idVotesCollected, lookup}
 use Rattle.voting.specs.Header.{softForkVote, votesFor}
 
 -- S + L×k, the boundary k epochs after S
@@ -39,7 +39,7 @@ checkRound g height (Number start) (Number votes) = cond (barred g height start 
 unfoldable pub checkForkVote : VotingConfig → ℕ → List ℕ → Table → ForkVote
 checkForkVote g height votes t =
     cond (settingsLarge g) (Refused settingLarge)
-    (cond (votesFor softForkVote votes) (checkRound g height (lookup t 122) (lookup t 121)) Allowed)
+    (cond (votesFor softForkVote votes) (checkRound g height (lookup t idStartingHeight) (lookup t idVotesCollected)) Allowed)
 
 -- the number that turns a header down: a vote that is barred is 12
 unfoldable pub forkRefusal : ForkVote → ℕ
@@ -54,4 +54,4 @@ roundOpen g end (Number start) Absent = false
 roundOpen g end (Number start) (Number votes) = leZ (pos end) (epochsAfter g start (voteEpochs g))
 
 unfoldable pub votesOpen : VotingConfig → ℕ → Table → Bool
-votesOpen g end t = not (settingsLarge g) && roundOpen g end (lookup t 122) (lookup t 121)
+votesOpen g end t = not (settingsLarge g) && roundOpen g end (lookup t idStartingHeight) (lookup t idVotesCollected)

@@ -7,5 +7,6 @@ pub mod ForkCheck
 pub mod ForkPart
 pub mod Ordinary
 pub mod Boundary
+pub mod Sweep
 pub mod Order
 pub mod Steps

@@ -17,6 +17,19 @@ use Rattle.voting.specs.declared.table.Fork.{Fork}
 use Rattle.voting.specs.declared.table.Table.{Table}
 use Rattle.voting.specs.Common.{eqZ}
 
+-- the ids of the entries beside the parameters 1 to 8
+abbrev pub idSubblocksPerBlock : ℕ
+idSubblocksPerBlock = 9
+
+abbrev pub idVotesCollected : ℕ
+idVotesCollected = 121
+
+abbrev pub idStartingHeight : ℕ
+idStartingHeight = 122
+
+abbrev pub idBlockVersion : ℕ
+idBlockVersion = 123
+
 abbrev pub slot : Value → Slot
 slot v = record { value = v }
 
@@ -30,19 +43,19 @@ withFork t f = record { ordinary = t .ordinary; fork = f }
 -- the entry of an id: 121 votes collected, 122 starting height, 123 block version, 1 to 9 the ordinary parameters; no other id has one
 unfoldable pub lookup : Table → ℕ → Value
 lookup t id =
-    cond (eqb id 121) (t .fork .votes)
-    (cond (eqb id 122) (t .fork .start)
-    (cond (eqb id 123) (t .fork .version)
-    (cond (ltb id 1) Absent (cond (ltb 9 id) Absent (getD (t .ordinary) (id - 1) (slot Absent) .value)))))
+    cond (eqb id idVotesCollected) (t .fork .votes)
+    (cond (eqb id idStartingHeight) (t .fork .start)
+    (cond (eqb id idBlockVersion) (t .fork .version)
+    (cond (ltb id 1) Absent (cond (ltb idSubblocksPerBlock id) Absent (getD (t .ordinary) (id - 1) (slot Absent) .value)))))
 
 -- the table with one entry written; an id that has none changes nothing
 unfoldable pub update : Table → ℕ → Value → Table
 update t id v =
-    cond (eqb id 121) (withFork t (forkEntries v (t .fork .start) (t .fork .version)))
-    (cond (eqb id 122) (withFork t (forkEntries (t .fork .votes) v (t .fork .version)))
-    (cond (eqb id 123) (withFork t (forkEntries (t .fork .votes) (t .fork .start) v))
+    cond (eqb id idVotesCollected) (withFork t (forkEntries v (t .fork .start) (t .fork .version)))
+    (cond (eqb id idStartingHeight) (withFork t (forkEntries (t .fork .votes) v (t .fork .version)))
+    (cond (eqb id idBlockVersion) (withFork t (forkEntries (t .fork .votes) (t .fork .start) v))
     (cond (ltb id 1) t
-    (cond (ltb 9 id) t (record { ordinary = set (t .ordinary) (id - 1) (slot v); fork = t .fork })))))
+    (cond (ltb idSubblocksPerBlock id) t (record { ordinary = set (t .ordinary) (id - 1) (slot v); fork = t .fork })))))
 
 -- the table that a network begins with: entry 9 and the version differ
 unfoldable pub beginning : Value → ℤ → Table
@@ -62,4 +75,4 @@ versionRefusal Absent v = blockVersionAbsent
 versionRefusal (Number z) v = cond (eqZ z (pos v)) 0 blockVersionDiffers
 
 unfoldable pub checkBlockVersion : Table → ℕ → ℕ
-checkBlockVersion t v = versionRefusal (lookup t 123) v
+checkBlockVersion t v = versionRefusal (lookup t idBlockVersion) v
