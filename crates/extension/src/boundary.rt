@@ -14,9 +14,10 @@ ghost use Rattle.voting.specs.Tally.{entries};
 ghost use Rattle.voting.specs.ForkPart.{noRound};
 ghost use Rattle.extension.specs.Update.{noUpdate};
 ghost use Rattle.extension.specs.Boundary.{activates, computedOf};
+ghost use Rattle.extension.specs.Examples.{Examples};
 
 // The rule under which entry 9 is not set by itself.
-const SUBBLOCKS_RULE: u16 = 409;
+pub const SUBBLOCKS_RULE: u16 = 409;
 
 // A refusal's number, or 0; the new table, what happens to a round, and the activated update. Refused: the old table, no event, no update.
 pub struct Computed {
@@ -26,6 +27,8 @@ pub struct Computed {
     pub activated: Update,
 }
 
+// The table after a boundary and the activated update, or 22, 7, 8, 17 to 20, 13, 14. examples: the table of docs/RULES.md, "Examples at the
+// edges", holds of the definitions that this promise cites.
 pub fn boundary_with_update(
     config: VotingConfig,
     height: u32,
@@ -35,6 +38,7 @@ pub fn boundary_with_update(
     proposed_update: &[u8],
 ) -> Computed
     ensures { λ r. ⌜ r ≡ computedOf config height table (entries tally) vote (now («proposed_update» .entry)) ⌝ }
+    ensures examples { λ r. ⌜ Examples ⌝ }
 {
     let x = update::parse_validation_settings_update(proposed_update);
     let e = x.refusal;

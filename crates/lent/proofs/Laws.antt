@@ -1,2 +1,2 @@
-pub mod Sweep
+pub mod Carried
 pub mod Reader

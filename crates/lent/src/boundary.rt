@@ -1,27 +1,18 @@
 // The boundary over a lent list of entries. docs/RULES.md, "Boundary".
 use extension::boundary;
 use extension::boundary::Computed;
+use extension::boundary::SUBBLOCKS_RULE;
 use extension::update;
 use extension::update::ParsedUpdate;
 use voting::boundary as values;
-use voting::boundary::Boundary;
-use voting::fork;
-use voting::fork::Forked;
-use voting::fork::Round;
-use voting::fork::RoundAt;
-use voting::header::SOFT_FORK_ID;
-use voting::ordinary;
-use voting::ordinary::Voted;
+use voting::boundary::Sweep;
 use voting::settings::VotingConfig;
 use voting::table::Table;
-use voting::table::Value;
 use voting::tally::Entry;
 ghost use mathlib.Core.Path.{_≡_};
-ghost use Rattle.voting.specs.Ordinary.{onward, voted};
-ghost use Rattle.voting.specs.Boundary.{refuses};
 ghost use Rattle.extension.specs.Boundary.{computedOf};
 ghost use Rattle.extension.specs.Order.{InAnyOrder};
-ghost use Rattle.lent.specs.Sweep.{begunOf, sweptOf, finishedFork, finishedRound, finishedOf};
+ghost use Rattle.lent.specs.Carried.{begunOf, sweptOf, finishedOf};
 
 // What a boundary is asked, beside the tally of the epoch before and the bytes of the proposed update.
 pub struct BoundaryAt {
@@ -31,15 +22,12 @@ pub struct BoundaryAt {
     pub vote: bool,
 }
 
-// What is carried through the entries: the update, whether it disables rule 409, the count of the first entry for the fork, and the
-// ordinary votes so far.
-pub struct Sweep {
+// What is carried through the entries: the update, whether it disables rule 409, and the boundary so far.
+pub struct Carried {
     pub at: BoundaryAt,
     pub parsed: ParsedUpdate,
     pub disables: bool,
-    pub found: bool,
-    pub votes: u32,
-    pub voted: Voted,
+    pub sweep: Sweep,
 }
 
 // The table after a boundary and the activated update, or 22, 7, 8, 17 to 20, 13, 14. If no entry repeats or contradicts another, the
@@ -65,58 +53,40 @@ pub fn compute_boundary_parameters(
 }
 
 // The bytes are tested and parsed.
-fn begun(at: BoundaryAt, proposed_update: &[u8]) -> Sweep
+fn begun(at: BoundaryAt, proposed_update: &[u8]) -> Carried
     ensures { λ r. ⌜ r ≡ begunOf at (now («proposed_update» .entry)) ⌝ }
 {
     let parsed = update::parse_validation_settings_update(proposed_update);
     let u = parsed.update;
-    let disables = update::disables(proposed_update, u, 409);
+    let disables = update::disables(proposed_update, u, SUBBLOCKS_RULE);
     let table = at.table;
-    Sweep {
+    Carried {
         at,
         parsed,
         disables,
-        found: false,
-        votes: 0,
-        voted: Voted { refusal: 0, table },
+        sweep: values::begin(table),
     }
 }
 
 // One entry.
-fn swept(s: Sweep, id: i8, count: u32) -> Sweep
+fn swept(s: Carried, id: i8, count: u32) -> Carried
     ensures { λ r. ⌜ r ≡ sweptOf s id count ⌝ }
 {
     let at = s.at;
     let parsed = s.parsed;
-    let fork = id == SOFT_FORK_ID;
-    let voted = swept_votes(s, id, count);
-    Sweep {
+    let sweep = s.sweep;
+    let config = at.config;
+    let table = at.table;
+    Carried {
         at,
         parsed,
         disables: s.disables,
-        found: if fork { true } else { s.found },
-        votes: if fork & !s.found { count } else { s.votes },
-        voted,
+        sweep: values::entry(config, table, sweep, Entry { id, count }),
     }
 }
 
-// The ordinary votes with one entry more, by the old table; after a refusal they stay.
-fn swept_votes(s: Sweep, id: i8, count: u32) -> Voted
-    ensures { λ r. ⌜ r ≡ onward (s .voted) (voted (s .at .config) (s .at .table) (record { id = id; count = count })) ⌝ }
-{
-    let v = s.voted;
-    if v.refusal != 0 {
-        return v;
-    }
-    let at = s.at;
-    let config = at.config;
-    let from = at.table;
-    let new = v.table;
-    ordinary::vote(config, from, Entry { id, count }, new)
-}
-
-// The fork part, entry 9 and the update after the last entry.
-fn finished(s: Sweep) -> Computed
+// After the last entry.
+fn finished(s: Carried) -> Computed
     ensures { λ r. ⌜ r ≡ finishedOf s ⌝ }
 {
     let at = s.at;
@@ -127,65 +97,10 @@ fn finished(s: Sweep) -> Computed
         return boundary::refused(e, table);
     }
     let config = at.config;
-    let old = table.fork;
-    let r = fork::round_at(config, at.height, at.vote, s.votes, old);
+    let sweep = s.sweep;
     let u = parsed.update;
-    boundary::activates(u, finished_round(s, r))
-}
-
-fn finished_round(s: Sweep, r: RoundAt) -> Boundary
-    ensures { λ b. ⌜ b ≡ finishedRound s r ⌝ }
-{
-    let at = s.at;
-    let table = at.table;
-    let e = r.refusal;
-    if e != 0 {
-        return refused(e, table);
-    }
-    let config = at.config;
-    let old = table.fork;
-    let round = r.round;
-    let f = fork::fork_after(config, at.height, round, old);
-    finished_fork(s, r, f)
-}
-
-fn finished_fork(s: Sweep, r: RoundAt, f: Forked) -> Boundary
-    ensures { λ b. ⌜ b ≡ finishedFork s r f ⌝ }
-{
-    let at = s.at;
-    let table = at.table;
-    let e = f.refusal;
-    if e != 0 {
-        return refused(e, table);
-    }
-    let v = s.voted;
-    let e = v.refusal;
-    if e != 0 {
-        return refused(e, table);
-    }
-    let new = v.table;
-    let ordinary = new.ordinary;
-    let fork = f.fork;
-    let round = r.round;
-    let last = values::with_subblocks(round.rose & s.disables, Table { ordinary, fork });
-    Boundary {
-        refusal: 0,
-        table: last,
-        round,
-    }
-}
-
-fn refused(refusal: u8, table: Table) -> Boundary
-    ensures { λ b. ⌜ b ≡ refuses table refusal ⌝ }
-{
-    Boundary {
-        refusal,
-        table,
-        round: Round {
-            opened: false,
-            closed: false,
-            rose: false,
-            total: Value::Absent,
-        },
-    }
+    boundary::activates(
+        u,
+        values::finish(config, at.height, table, at.vote, s.disables, sweep),
+    )
 }

@@ -13,14 +13,13 @@ use lib.ListN.{length}
 use Rattle.codec.specs.Signed.{modulo, bitsOf, signedOf, wrapped}
 use Rattle.voting.specs.declared.settings.VotingConfig.{VotingConfig}
 use Rattle.voting.specs.declared.table.Fork.{Fork}
-use Rattle.voting.specs.declared.fork.RoundAt.{RoundAt}
-use Rattle.voting.specs.declared.fork.Forked.{Forked}
-use Rattle.voting.specs.Common.{eqZ, count, first}
+use Rattle.voting.specs.declared.fork.ForkPart.{ForkPart}
+use Rattle.voting.specs.Common.{eqZ, count, first, gate}
 use Rattle.voting.specs.Settings.{votingLength, settings, forkLimit, softForkApproved, settingsLarge}
 use Rattle.voting.specs.Header.{votesIn, negation, ordinaryVote, fault, faultIn, checkVotes, checkHeaderVotes, votesFor, AllLegal}
 use Rattle.voting.specs.Tally.{headers, slotEntry, seeded, entry, entries, firstCount, firstVotes, countedFor}
 use Rattle.voting.specs.ForkCheck.{epochsAfter, between, barred, checkRound, forkRefusal}
-use Rattle.voting.specs.ForkPart.{forkTotal, roundSteps, roundBy, roundFrom, roundAt, storedOr, votesAfter, startAfter, risen, forced, versionAfter, forkAfter}
+use Rattle.voting.specs.ForkPart.{phaseAt, forkTotal, readsTotal, closesLate, without, closesEarly, restarts, begun, collected, rises, oneMore, versionBy, risen, fiveSteps, twoForOne, forced, finished, running, opening, byStart, forkPart}
 use Rattle.voting.proofs.Laws.Header.{first-zero}
 use Rattle.voting.proofs.Laws.Fork.{allowed}
 use Rattle.rounds.specs.Epochs.{boundaryVotes, counted}
@@ -39,10 +38,6 @@ pub record State : Type 0 where
   pub next : ℕ
   pub before : List ℕ
 
-unfoldable pub gate : ℕ → Answer State → Answer State
-gate zero a = a
-gate (suc n) a = refused (suc n)
-
 unfoldable pub test : Bool → ℕ → ℕ
 test b n = cond b 0 n
 
@@ -53,21 +48,17 @@ illegal (h ∷ hs) = first (checkHeaderVotes h) (illegal hs)
 abbrev brings : State → ℕ
 brings s = firstCount (pos 120) (entries (seeded (s .before)))
 
-abbrev round : VotingConfig → State → Record → RoundAt
-round g s r = roundAt g (r .height) (boundaryVotes (r .votes)) (brings s) (s .fork)
-
-abbrev forked : VotingConfig → State → Record → Forked
-forked g s r = forkAfter g (r .height) (round g s r .round) (s .fork)
+abbrev part : VotingConfig → State → Record → ForkPart
+part g s r = forkPart g (r .height) (boundaryVotes (r .votes)) (brings s) (s .fork)
 
 unfoldable pub step : VotingConfig → State → Record → Answer State
 step g s r =
-    gate (test (eqb (length (r .votes)) (3 * votingLength g)) 25)
-    (gate (test (eqb (r .height) (s .next) && leb (r .height + votingLength g) (2 ^ 31)) 26)
-    (gate (illegal (headers (r .votes)))
-    (gate (cond (boundaryVotes (r .votes)) (forkRefusal (checkRound g (r .height) (s .fork .start) (s .fork .votes))) 0)
-    (gate (round g s r .refusal)
-    (gate (forked g s r .refusal)
-    (accepted (record { fork = forked g s r .fork; next = r .height + votingLength g; before = r .votes })))))))
+    gate refused (test (eqb (length (r .votes)) (3 * votingLength g)) 25)
+    (gate refused (test (eqb (r .height) (s .next) && leb (r .height + votingLength g) (2 ^ 31)) 26)
+    (gate refused (illegal (headers (r .votes)))
+    (gate refused (cond (boundaryVotes (r .votes)) (forkRefusal (checkRound g (r .height) (s .fork .start) (s .fork .votes))) 0)
+    (gate refused (part g s r .refusal)
+    (accepted (record { fork = part g s r .fork; next = r .height + votingLength g; before = r .votes }))))))
 
 abbrev pub replay : VotingConfig → Replay
 replay g =
@@ -84,12 +75,12 @@ replay g =
 
 -- ---- it keeps the law
 
-gate-zero : (n : ℕ) (a : Answer State) (t : State) → gate n a ≡ accepted t → n ≡ 0
+gate-zero : (n : ℕ) (a : Answer State) (t : State) → gate refused n a ≡ accepted t → n ≡ 0
 unfolding gate
 gate-zero zero a t e = refl
 gate-zero (suc n) a t e = absurd (let z : _≡_ {A = ℕ} 0 1 = cc in omega arith)
 
-gate-rest : (n : ℕ) (a : Answer State) (t : State) → gate n a ≡ accepted t → a ≡ accepted t
+gate-rest : (n : ℕ) (a : Answer State) (t : State) → gate refused n a ≡ accepted t → a ≡ accepted t
 unfolding gate
 gate-rest zero a t e = e
 gate-rest (suc n) a t e = absurd (let z : _≡_ {A = ℕ} 0 1 = cc in omega arith)
@@ -114,8 +105,7 @@ lawful g s r t e₀ =
     let e₂ = gate-rest _ _ _ e₁ in
     let e₃ = gate-rest _ _ _ e₂ in
     let e₄ = gate-rest _ _ _ e₃ in
-    let e₅ = gate-rest _ _ _ e₄ in
-    let e₆ = same _ _ (gate-rest _ _ _ e₅) in
+    let e₅ = same _ _ (gate-rest _ _ _ e₄) in
     let at = both (eqb (r .height) (s .next)) (leb (r .height + votingLength g) (2 ^ 31)) (test-zero _ _ (gate-zero _ _ _ e₁)) in
     record {
       long = eqb-true _ _ (test-zero _ _ (gate-zero _ _ _ e₀));
@@ -123,9 +113,9 @@ lawful g s r t e₀ =
       top = leb-true (r .height + votingLength g) (2 ^ 31) (at .1);
       legal = legal (headers (r .votes)) (gate-zero _ _ _ e₂);
       check = λ v. allowed g (r .height) (s .fork .start) (s .fork .votes) (ap (λ (b : Bool). cond b (forkRefusal (checkRound g (r .height) (s .fork .start) (s .fork .votes))) 0) (sym v) ∙ gate-zero _ _ _ e₃);
-      part = sym (ap (λ (z : State). z .fork) e₆);
-      next = sym (ap (λ (z : State). z .next) e₆);
-      brings = sym (ap (λ (z : State). brings z) e₆);
+      part = sym (ap (λ (z : State). z .fork) e₅);
+      next = sym (ap (λ (z : State). z .next) e₅);
+      brings = sym (ap (λ (z : State). brings z) e₅);
     }
 
 -- ---- a run: two headers an epoch, one vote epoch, one activation epoch; more than 1 vote wins
@@ -144,7 +134,7 @@ start = record { fork = entriesFor idle 1; next = 2; before = [] }
 a-run : run (replay small) start
     (epoch 2 120 120 ∷ epoch 5 0 0 ∷ epoch 4 120 0 ∷ epoch 4 0 0 ∷ epoch 6 120 0 ∷ epoch 6 0 0 ∷ epoch 8 120 0 ∷ epoch 10 1 1 ∷ epoch 12 128 0 ∷ epoch 12 120 120 ∷ [])
     ≡ record { fork = entriesFor (since 12 0) 2; next = 14; before = 120 ∷ 0 ∷ 0 ∷ 120 ∷ 0 ∷ 0 ∷ [] }
-unfolding run step gate test illegal first checkHeaderVotes checkVotes votesIn negation ordinaryVote fault faultIn votesFor count eqZ headers slotEntry seeded entry entries firstCount firstVotes boundaryVotes epochsAfter between barred checkRound forkRefusal forkTotal roundSteps roundBy roundFrom roundAt storedOr votesAfter startAfter risen forced versionAfter forkAfter forkLimit softForkApproved settingsLarge modulo bitsOf signedOf wrapped
+unfolding run step gate test illegal first checkHeaderVotes checkVotes votesIn negation ordinaryVote fault faultIn votesFor count eqZ headers slotEntry seeded entry entries firstCount firstVotes boundaryVotes epochsAfter between barred checkRound forkRefusal phaseAt forkTotal readsTotal closesLate without closesEarly restarts begun collected rises oneMore versionBy risen fiveSteps twoForOne forced finished running opening byStart forkPart forkLimit softForkApproved settingsLarge modulo bitsOf signedOf wrapped
 a-run = refl
 
 -- and the promise holds of it, from this start

@@ -20,7 +20,7 @@ use Rattle.rounds.specs.Epochs.{boundaryVotes, counted, forcedVersion}
 use Rattle.rounds.specs.Book.{Round, idle, since, Book, bookAdd, bookRise, bookClose, bookOpen, bookTake, bookStep, bookRun}
 use Rattle.rounds.specs.Replay.{Answer, refused, accepted, Replay, after, call, run, calls, Lawful}
 use Rattle.rounds.specs.Claim.{entriesFor, Sound}
-use Rattle.rounds.proofs.ForkPart.{forkPart, fork-running, fork-idle, silent}
+use Rattle.rounds.proofs.ForkPart.{forkLeft, fork-running, fork-idle, silent}
 use Rattle.rounds.proofs.BookAt.{add-at, rise-at, close-at}
 use Rattle.rounds.proofs.Counted.{brought, counted-most}
 use Rattle.rounds.proofs.Invariant.{Open, InvR, force-low, quiet-votes, opened, next-running}
@@ -42,7 +42,7 @@ version′ g h c r v = forcedVersion g h (bookRise g h (bookAdd g h c r) v)
 -- what one accepted record does to the fork entries and to the rounds' invariant
 abbrev Taken : VotingConfig → List ℕ → ℕ → Round → ℕ → ℕ → Type 0
 Taken g xs c r v h =
-    (forkPart g h (boundaryVotes xs) c (entriesFor r v) ≡ entriesFor (round′ g h (boundaryVotes xs) c r) (version′ g h c r v))
+    (forkLeft g h (boundaryVotes xs) c (entriesFor r v) ≡ entriesFor (round′ g h (boundaryVotes xs) c r) (version′ g h c r v))
     × InvR g (round′ g h (boundaryVotes xs) c r) (version′ g h c r v) (h + votingLength g) (counted xs)
 
 module _ (g : VotingConfig) (sound : Sound g) (c : ℕ) (few : c ≤ votingLength g) (xs : List ℕ) where
@@ -88,7 +88,7 @@ module _ (g : VotingConfig) (sound : Sound g) (c : ℕ) (few : c ≤ votingLengt
 take : (g : VotingConfig) → Sound g → (f f′ : Fork) (next : ℕ) (c : ℕ) (r : Round) (v : ℕ) (before xs : List ℕ)
     → Inv g f next c r v before → next + votingLength g ≤ 2 ^ 31 → length xs ≡ 3 * votingLength g → AllLegal (headers xs)
     → (boundaryVotes xs ≡ true → checkRound g next (f .start) (f .votes) ≡ Allowed)
-    → f′ ≡ forkPart g next (boundaryVotes xs) c f
+    → f′ ≡ forkLeft g next (boundaryVotes xs) c f
     → Inv g f′ (next + votingLength g) (firstCount (pos softForkVote) (entries (seeded xs))) (round′ g next (boundaryVotes xs) (counted before) r)
     (version′ g next (counted before) r v) xs
 take g sound f f′ next c r v before xs i top long legal check e =
@@ -96,7 +96,7 @@ take g sound f f′ next c r v before xs i top long legal check e =
     taken-round g sound (counted before) (i .few) xs r v next (i .rounds) top (i .mult) (rw (i .table) at check)
     in
     record {
-      table = e ∙ ap₂ (λ (a : Fork) (k : ℕ). forkPart g next (boundaryVotes xs) k a) (i .table) (i .tallied) ∙ t .0;
+      table = e ∙ ap₂ (λ (a : Fork) (k : ℕ). forkLeft g next (boundaryVotes xs) k a) (i .table) (i .tallied) ∙ t .0;
       tallied = brought xs (votingLength g) long legal;
       few = counted-most xs (votingLength g) long;
       mult = add-mod-right next (votingLength g) ∙ i .mult;

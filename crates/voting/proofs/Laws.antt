@@ -10,6 +10,7 @@ pub mod Votes
 pub mod Ordinary
 pub mod Fork
 pub mod Boundary
+pub mod Sweep
 pub mod Order
 pub mod Seeded
 pub mod Steps

@@ -1,11 +1,11 @@
 // Soft-fork rounds: the fork check of a header, and the fork part of a boundary. docs/RULES.md, "Fork check" and "Boundary".
 ghost use mathlib.Core.Path.{_≡_};
 ghost use mathlib.Core.Bool.{false, cond};
-ghost use Prim.Native.Nat.{_+_, _*_, _<_};
+ghost use Prim.Native.Nat.{_*_, _<_};
 ghost use lib.IntN.{pos, _+ℤ_};
 ghost use Rattle.voting.specs.Settings.{votingLength, settingsLarge};
 ghost use Rattle.voting.specs.ForkCheck.{barred, checkRound, checkForkVote, forkRefusal, roundOpen, votesOpen};
-ghost use Rattle.voting.specs.ForkPart.{noRound, forkTotal, roundSteps, roundBy, roundFrom, roundAt, votesAfter, startAfter, risen, forced, versionAfter, forkAfter};
+ghost use Rattle.voting.specs.ForkPart.{noRound, forkRefused, phaseAt, forkTotal, readsTotal, closesLate, closesEarly, restarts, rises, without, begun, collected, oneMore, risen, fiveSteps, roundSteps, twoForOne, forced, finished, running, opening, forkPart};
 use crate::header;
 use crate::settings::VotingConfig;
 use crate::table::Fork;
@@ -21,6 +21,14 @@ pub enum ForkVote {
     Refused(u8),
 }
 
+// Where a height stands in an open round: at its late or its early closing height, where its votes are collected, where the version rises.
+pub struct Phase {
+    pub late: bool,
+    pub early: bool,
+    pub voting: bool,
+    pub rising: bool,
+}
+
 // What happens to a round at a boundary: whether one opens there, whether the open one closes, whether it raises the version, and
 // the total of its votes where that is stored.
 pub struct Round {
@@ -30,14 +38,17 @@ pub struct Round {
     pub total: Value,
 }
 
-pub struct RoundAt {
-    pub refusal: u8,
-    pub round: Round,
-}
-
+// The fork entries, or a refusal's number.
 pub struct Forked {
     pub refusal: u8,
     pub fork: Fork,
+}
+
+// A refusal's number or 0; the fork entries that go on, which are the old ones where it is refused; and what happens to a round.
+pub struct ForkPart {
+    pub refusal: u8,
+    pub fork: Fork,
+    pub round: Round,
 }
 
 // 2^31 and the boundary k epochs after a round's start: never negative.
@@ -147,10 +158,166 @@ pub(crate) fn no_round() -> Round
     }
 }
 
+fn fork_refused(old: Fork, refusal: u8) -> ForkPart
+    ensures { λ r. ⌜ r ≡ forkRefused old refusal ⌝ }
+{
+    let round = no_round();
+    ForkPart {
+        refusal,
+        fork: old,
+        round,
+    }
+}
+
+fn phase_at(config: VotingConfig, height: u32, start: i32) -> Phase
+    requires { ⌜ settingsLarge config ≡ false ⌝ }
+    ensures { λ r. ⌜ r ≡ phaseAt config height start ⌝ }
+{
+    let l = config.voting_length;
+    let v = config.soft_fork_epochs;
+    let a = config.activation_epochs;
+    let h = height as u64 + 2147483648;
+    Phase {
+        late: h == epochs_after(start, l, v + a + 1),
+        early: h == epochs_after(start, l, v + 1),
+        voting: h <= epochs_after(start, l, v),
+        rising: h == epochs_after(start, l, v + a),
+    }
+}
+
 fn fork_total(votes: u32, collected: i32) -> i32
     ensures { λ r. ⌜ r ≡ forkTotal votes collected ⌝ }
 {
     signed::wrapping_add_i32(signed::i32_of(votes), collected)
+}
+
+fn reads_total(p: Phase) -> bool
+    ensures { λ r. ⌜ r ≡ readsTotal p ⌝ }
+{
+    p.late | p.early | p.voting | p.rising
+}
+
+fn closes_late(p: Phase, approved: bool) -> bool
+    ensures { λ r. ⌜ r ≡ closesLate p approved ⌝ }
+{
+    p.late & approved
+}
+
+fn closes_early(p: Phase, approved: bool) -> bool
+    ensures { λ r. ⌜ r ≡ closesEarly p approved ⌝ }
+{
+    p.early & !approved
+}
+
+fn restarts(p: Phase, vote: bool, approved: bool) -> bool
+    ensures { λ r. ⌜ r ≡ restarts p vote approved ⌝ }
+{
+    vote & (p.late | (p.early & !approved))
+}
+
+fn rises(p: Phase, approved: bool) -> bool
+    ensures { λ r. ⌜ r ≡ rises p approved ⌝ }
+{
+    p.rising & approved
+}
+
+// Steps 1 and 2: entries 121 and 122 are removed.
+fn without(closes: bool, f: Fork) -> Fork
+    ensures { λ r. ⌜ r ≡ without closes f ⌝ }
+{
+    if closes {
+        let version = f.version;
+        return Fork {
+            votes: Value::Absent,
+            start: Value::Absent,
+            version,
+        };
+    }
+    f
+}
+
+// Step 3: entry 122 becomes the height, 121 becomes 0.
+fn begun(opens: bool, height: u32, f: Fork) -> Fork
+    ensures { λ r. ⌜ r ≡ begun opens height f ⌝ }
+{
+    if opens {
+        let h = signed::i32_of(height);
+        let version = f.version;
+        return Fork {
+            votes: Value::Number(0),
+            start: Value::Number(h),
+            version,
+        };
+    }
+    f
+}
+
+// Step 4: entry 121 becomes the total.
+fn collected(voting: bool, total: i32, f: Fork) -> Fork
+    ensures { λ r. ⌜ r ≡ collected voting total f ⌝ }
+{
+    if voting {
+        let start = f.start;
+        let version = f.version;
+        return Fork {
+            votes: Value::Number(total),
+            start,
+            version,
+        };
+    }
+    f
+}
+
+fn with_version(f: Fork, z: i32) -> Forked
+    ensures { λ r. ⌜ r ≡ record { refusal = 0; fork = record { votes = f .votes; start = f .start; version = Value.Number z } } ⌝ }
+{
+    let votes = f.votes;
+    let start = f.start;
+    Forked {
+        refusal: 0,
+        fork: Fork {
+            votes,
+            start,
+            version: Value::Number(z),
+        },
+    }
+}
+
+fn one_more(z: i32) -> i32
+    ensures { λ r. ⌜ r ≡ oneMore z ⌝ }
+{
+    signed::wrapping_add_i32(z, 1)
+}
+
+// Step 5: entry 123 rises.
+fn risen(rise: bool, f: Fork) -> Forked
+    ensures { λ r. ⌜ r ≡ risen rise f ⌝ }
+{
+    if !rise {
+        return Forked {
+            refusal: 0,
+            fork: f,
+        };
+    }
+    let version = f.version;
+    match version {
+        Value::Absent => Forked {
+            refusal: refusal::BLOCK_VERSION_ABSENT,
+            fork: f,
+        },
+        Value::Number(z) => with_version(f, one_more(z)),
+    }
+}
+
+// The five steps in order.
+fn five_steps(p: Phase, vote: bool, approved: bool, total: i32, height: u32, old: Fork) -> Forked
+    ensures { λ r. ⌜ r ≡ fiveSteps p vote approved total height old ⌝ }
+{
+    let first = without(closes_late(p, approved), old);
+    let second = without(closes_early(p, approved), first);
+    let third = begun(restarts(p, vote, approved), height, second);
+    let fourth = collected(p.voting, total, third);
+    risen(rises(p, approved), fourth)
 }
 
 fn stored(voting: bool, total: i32) -> Value
@@ -162,221 +329,150 @@ fn stored(voting: bool, total: i32) -> Value
     Value::Absent
 }
 
-// The five steps, by the tests on the height.
-fn round_steps(
-    late: bool,
-    early: bool,
-    voting: bool,
-    rising: bool,
-    vote: bool,
-    approved: bool,
-    total: i32,
-) -> Round
-    ensures { λ r. ⌜ r ≡ roundSteps late early voting rising vote approved total ⌝ }
+// What happens to the round in them.
+fn round_steps(p: Phase, vote: bool, approved: bool, total: i32) -> Round
+    ensures { λ r. ⌜ r ≡ roundSteps p vote approved total ⌝ }
 {
-    let t = stored(voting, total);
+    let t = stored(p.voting, total);
+    let opened = restarts(p, vote, approved);
     Round {
-        opened: vote & (late | (early & !approved)),
-        closed: (late & approved) | (early & !approved) | (late & vote),
-        rose: rising & approved,
+        opened,
+        closed: closes_late(p, approved) | closes_early(p, approved) | opened,
+        rose: rises(p, approved),
         total: t,
     }
 }
 
-fn round_by(
-    config: VotingConfig,
-    late: bool,
-    early: bool,
-    voting: bool,
-    rising: bool,
-    vote: bool,
-    votes: u32,
-    collected: Value,
-) -> RoundAt
-    ensures { λ r. ⌜ r ≡ roundBy config late early voting rising vote votes collected ⌝ }
+fn two_for_one(z: i32) -> i32
+    ensures { λ r. ⌜ r ≡ twoForOne z ⌝ }
 {
-    match collected {
-        Value::Absent => {
-            let round = no_round();
-            if late | early | voting | rising {
-                return RoundAt {
-                    refusal: refusal::VOTES_COLLECTED_ABSENT,
-                    round,
-                };
-            }
-            RoundAt { refusal: 0, round }
-        }
-        Value::Number(n) => {
-            let total = fork_total(votes, n);
-            let approved = config.soft_fork_approved(total);
-            let round = round_steps(late, early, voting, rising, vote, approved, total);
-            RoundAt { refusal: 0, round }
-        }
-    }
-}
-
-// A round that is open since a start.
-fn open_round(
-    config: VotingConfig,
-    height: u32,
-    vote: bool,
-    votes: u32,
-    start: i32,
-    collected: Value,
-) -> RoundAt
-    requires { ⌜ settingsLarge config ≡ false ⌝ }
-    ensures { λ r. ⌜ r ≡ roundFrom config height vote votes (Value.Number start) collected ⌝ }
-{
-    let l = config.voting_length;
-    let v = config.soft_fork_epochs;
-    let a = config.activation_epochs;
-    let h = height as u64 + 2147483648;
-    let late = h == epochs_after(start, l, v + a + 1);
-    let early = h == epochs_after(start, l, v + 1);
-    let voting = h <= epochs_after(start, l, v);
-    let rising = h == epochs_after(start, l, v + a);
-    round_by(config, late, early, voting, rising, vote, votes, collected)
-}
-
-// Without one: a vote at a multiple of the length opens it.
-fn new_round(config: VotingConfig, height: u32, vote: bool, votes: u32, collected: Value) -> RoundAt
-    requires { ⌜ 0 < votingLength config ⌝ }
-    ensures { λ r. ⌜ r ≡ roundFrom config height vote votes Value.Absent collected ⌝ }
-{
-    let opened = vote & (height % config.voting_length == 0);
-    RoundAt {
-        refusal: 0,
-        round: Round {
-            opened,
-            closed: false,
-            rose: false,
-            total: Value::Absent,
-        },
-    }
-}
-
-// What happens to a round at a boundary, from the fork entries of the old table, whether the boundary header votes 120, and the votes
-// that the epoch before brings; or 17, 18, 19.
-pub fn round_at(config: VotingConfig, height: u32, vote: bool, votes: u32, old: Fork) -> RoundAt
-    ensures { λ r. ⌜ r ≡ roundAt config height vote votes old ⌝ }
-{
-    if config.voting_length == 0 {
-        let round = no_round();
-        return RoundAt {
-            refusal: refusal::VOTING_LENGTH_ZERO,
-            round,
-        };
-    }
-    if config.settings_large() {
-        let round = no_round();
-        return RoundAt {
-            refusal: refusal::SETTING_LARGE,
-            round,
-        };
-    }
-    let start = old.start;
-    let collected = old.votes;
-    match start {
-        Value::Absent => new_round(config, height, vote, votes, collected),
-        Value::Number(s) => open_round(config, height, vote, votes, s, collected),
-    }
-}
-
-fn votes_after(round: Round, old: Value) -> Value
-    ensures { λ r. ⌜ r ≡ votesAfter round old ⌝ }
-{
-    let t = round.total;
-    match t {
-        Value::Number(_) => t,
-        Value::Absent => {
-            if round.opened {
-                return Value::Number(0);
-            }
-            if round.closed {
-                return Value::Absent;
-            }
-            old
-        }
-    }
-}
-
-fn start_after(round: Round, height: u32, old: Value) -> Value
-    ensures { λ r. ⌜ r ≡ startAfter round height old ⌝ }
-{
-    if round.opened {
-        let h = signed::i32_of(height);
-        return Value::Number(h);
-    }
-    if round.closed {
-        return Value::Absent;
-    }
-    old
-}
-
-fn risen(rose: bool, z: i32) -> i32
-    ensures { λ r. ⌜ r ≡ risen rose z ⌝ }
-{
-    if rose {
-        return signed::wrapping_add_i32(z, 1);
-    }
-    z
-}
-
-fn forced(at: bool, z: i32) -> i32
-    ensures { λ r. ⌜ r ≡ forced at z ⌝ }
-{
-    if at & (z == 1) {
+    if z == 1 {
         return 2;
     }
     z
 }
 
-fn version_after(
-    rose: bool,
-    at: bool,
-    votes: Value,
-    start: Value,
-    old: Fork,
-    version: Value,
-) -> Forked
-    ensures { λ r. ⌜ r ≡ versionAfter rose at votes start old version ⌝ }
+// The forced version.
+fn forced(at: bool, f: Fork) -> Forked
+    ensures { λ r. ⌜ r ≡ forced at f ⌝ }
 {
+    if !at {
+        return Forked {
+            refusal: 0,
+            fork: f,
+        };
+    }
+    let version = f.version;
     match version {
+        Value::Absent => Forked {
+            refusal: refusal::BLOCK_VERSION_ABSENT,
+            fork: f,
+        },
+        Value::Number(z) => with_version(f, two_for_one(z)),
+    }
+}
+
+// The steps' entries, and then the forced version; or the old ones.
+fn finished(config: VotingConfig, height: u32, old: Fork, round: Round, f: Forked) -> ForkPart
+    ensures { λ r. ⌜ r ≡ finished config height old round f ⌝ }
+{
+    if f.refusal != 0 {
+        return fork_refused(old, f.refusal);
+    }
+    let after = f.fork;
+    let last = forced(height == config.version2_activation_height, after);
+    if last.refusal != 0 {
+        return fork_refused(old, last.refusal);
+    }
+    let fork = last.fork;
+    ForkPart {
+        refusal: 0,
+        fork,
+        round,
+    }
+}
+
+// A round that is open, with its entry 121.
+fn running(
+    config: VotingConfig,
+    height: u32,
+    vote: bool,
+    votes: u32,
+    old: Fork,
+    p: Phase,
+    collected: Value,
+) -> ForkPart
+    ensures { λ r. ⌜ r ≡ running config height vote votes old p collected ⌝ }
+{
+    match collected {
         Value::Absent => {
-            if rose | at {
-                return Forked {
-                    refusal: refusal::BLOCK_VERSION_ABSENT,
-                    fork: old,
-                };
+            if reads_total(p) {
+                return fork_refused(old, refusal::VOTES_COLLECTED_ABSENT);
             }
-            let fork = Fork {
-                votes,
-                start,
-                version,
+            let f = Forked {
+                refusal: 0,
+                fork: old,
             };
-            Forked { refusal: 0, fork }
+            finished(config, height, old, no_round(), f)
         }
-        Value::Number(z) => {
-            let n = forced(at, risen(rose, z));
-            let fork = Fork {
-                votes,
-                start,
-                version: Value::Number(n),
-            };
-            Forked { refusal: 0, fork }
+        Value::Number(n) => {
+            let total = fork_total(votes, n);
+            let approved = config.soft_fork_approved(total);
+            let round = round_steps(p, vote, approved, total);
+            let f = five_steps(p, vote, approved, total, height, old);
+            finished(config, height, old, round, f)
         }
     }
 }
 
-// The fork entries after a boundary at which this happens to a round; or 20 and the old ones.
-pub fn fork_after(config: VotingConfig, height: u32, round: Round, old: Fork) -> Forked
-    ensures { λ r. ⌜ r ≡ forkAfter config height round old ⌝ }
+// Without one: a vote at a multiple of the length opens it.
+fn opening(config: VotingConfig, height: u32, vote: bool, old: Fork) -> ForkPart
+    requires { ⌜ 0 < votingLength config ⌝ }
+    ensures { λ r. ⌜ r ≡ opening config height vote old ⌝ }
 {
+    let opened = vote & (height % config.voting_length == 0);
+    let round = Round {
+        opened,
+        closed: false,
+        rose: false,
+        total: Value::Absent,
+    };
+    let f = Forked {
+        refusal: 0,
+        fork: begun(opened, height, old),
+    };
+    finished(config, height, old, round, f)
+}
+
+// The fork part of a boundary, from the fork entries of the old table, whether the boundary header votes 120, and the votes that the epoch
+// before brings; or 17, 18, 19, 20.
+pub(crate) fn fork_part(
+    config: VotingConfig,
+    height: u32,
+    vote: bool,
+    votes: u32,
+    old: Fork,
+) -> ForkPart
+    ensures { λ r. ⌜ r ≡ forkPart config height vote votes old ⌝ }
+{
+    if config.voting_length == 0 {
+        return fork_refused(old, refusal::VOTING_LENGTH_ZERO);
+    }
+    if config.settings_large() {
+        return fork_refused(old, refusal::SETTING_LARGE);
+    }
+    let start = old.start;
     let collected = old.votes;
-    let begun = old.start;
-    let version = old.version;
-    let votes = votes_after(round, collected);
-    let start = start_after(round, height, begun);
-    let at = height == config.version2_activation_height;
-    version_after(round.rose, at, votes, start, old, version)
+    match start {
+        Value::Absent => opening(config, height, vote, old),
+        Value::Number(s) => running(
+            config,
+            height,
+            vote,
+            votes,
+            old,
+            phase_at(config, height, s),
+            collected,
+        ),
+    }
 }

@@ -2,15 +2,12 @@
 ghost use mathlib.Core.Path.{_≡_};
 ghost use mathlib.Core.Bool.{true};
 ghost use lib.IntN.{natAbs};
-ghost use Rattle.voting.specs.Tally.{entry, entries};
-ghost use mathlib.Core.List.{[]};
-ghost use Rattle.voting.specs.Ordinary.{leastOf, greatestOf, fixedStepOf, hundredth, stepSize, raised, lowered, moved, known, counts, voted, ordinaryVotes, parameterMin, parameterMax, parameterStep};
+ghost use Rattle.voting.specs.Ordinary.{leastOf, greatestOf, fixedStepOf, hundredth, stepSize, raised, lowered, moved, known, counts, voted, parameterMin, parameterMax, parameterStep};
 use crate::header::SOFT_FORK_ID;
 use crate::settings::VotingConfig;
 use crate::table::Table;
 use crate::table::Value;
 use crate::tally::Entry;
-use crate::tally::Tally;
 use codec::refusal;
 
 pub struct Voted {
@@ -160,39 +157,6 @@ pub fn vote(config: VotingConfig, from: Table, e: Entry, new: Table) -> Voted
             }
         }
     }
-}
-
-// A place of a tally, which may hold no entry.
-fn place_vote(config: VotingConfig, from: Table, e: Entry, new: Table) -> Voted
-    ensures { λ r. ⌜ r ≡ ordinaryVotes config from (entry e []) new ⌝ }
-{
-    if e.id == 0 {
-        return Voted {
-            refusal: 0,
-            table: new,
-        };
-    }
-    vote(config, from, e, new)
-}
-
-// The votes of a tally in order.
-pub(crate) fn ordinary_votes(config: VotingConfig, from: Table, tally: Tally) -> Voted
-    ensures { λ r. ⌜ r ≡ ordinaryVotes config from (entries tally) from ⌝ }
-{
-    let a = tally.first;
-    let b = tally.second;
-    let c = tally.third;
-    let x = place_vote(config, from, a, from);
-    if x.refusal != 0 {
-        return x;
-    }
-    let t = x.table;
-    let x = place_vote(config, from, b, t);
-    if x.refusal != 0 {
-        return x;
-    }
-    let t = x.table;
-    place_vote(config, from, c, t)
 }
 
 // The least value of a vote's parameter; absent where there is no such parameter.

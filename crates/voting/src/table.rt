@@ -53,7 +53,7 @@ impl Table {
         if id < 1 {
             return Value::Absent;
         }
-        if 9 < id {
+        if ID_SUBBLOCKS_PER_BLOCK < id {
             return Value::Absent;
         }
         let k = (id - 1) as usize;
@@ -97,7 +97,7 @@ impl Table {
         if id < 1 {
             return self;
         }
-        if 9 < id {
+        if ID_SUBBLOCKS_PER_BLOCK < id {
             return self;
         }
         let k = (id - 1) as usize;

@@ -5,10 +5,7 @@ ghost use mathlib.Core.Bool.{cond};
 ghost use lib.Dec.{eqb};
 ghost use lib.ListN.{length};
 ghost use Rattle.voting.specs.Common.{count};
-ghost use Rattle.voting.specs.Header.{softForkVote};
-ghost use Rattle.voting.specs.Tally.{noTally, slotEntry, seeded, tallyVotesSeeded, entries, firstCount};
-ghost use lib.IntN.{pos};
-use crate::header::SOFT_FORK_ID;
+ghost use Rattle.voting.specs.Tally.{noTally, slotEntry, seeded, tallyVotesSeeded};
 use codec::refusal;
 use codec::signed;
 
@@ -118,26 +115,5 @@ pub fn tally_votes_seeded(
     Tallied {
         refusal: 0,
         tally: t,
-    }
-}
-
-impl Tally {
-    // The count of the first entry for the fork, else 0.
-    pub fn fork_count(self) -> u32
-        ensures { λ r. ⌜ r ≡ firstCount (pos softForkVote) (entries self) ⌝ }
-    {
-        let a = self.first;
-        if a.id == SOFT_FORK_ID {
-            return a.count;
-        }
-        let b = self.second;
-        if b.id == SOFT_FORK_ID {
-            return b.count;
-        }
-        let c = self.third;
-        if c.id == SOFT_FORK_ID {
-            return c.count;
-        }
-        0
     }
 }

@@ -24,7 +24,7 @@ use Rattle.voting.specs.Table.{lookup, forkEntries}
 use Rattle.voting.specs.Header.{softForkVote, checkHeaderVotes, votesFor, AllLegal}
 use Rattle.voting.specs.Tally.{headers, noTally, seeded, seeds, tallyVotesSeeded, entry, entries, firstCount, firstVotes, countedFor}
 use Rattle.voting.specs.ForkCheck.{checkRound, checkForkVote, forkRefusal}
-use Rattle.voting.specs.ForkPart.{noRound, roundRefused, roundFrom, roundAt}
+use Rattle.voting.specs.ForkPart.{noRound, forkRefused, byStart, forkPart}
 use Rattle.voting.specs.Boundary.{boundaryOf}
 use Rattle.voting.proofs.Laws.Fork.{allowed}
 use Rattle.voting.proofs.Laws.Header.{first-zero}
@@ -109,11 +109,11 @@ module _ (g : VotingConfig) (height : ℕ) (t : Table) (tally : List Entry) (vot
       go true q x = (x, refl)
       go false q x = absurd (eqb-false (updateOf s .refusal) 0 q x)
 
-not-large : (g : VotingConfig) (height : ℕ) (vote : Bool) (votes : ℕ) (f : Fork) → roundAt g height vote votes f .refusal ≡ 0 → votingLength g ≤ 65535
-unfolding roundAt settingsLarge
+not-large : (g : VotingConfig) (height : ℕ) (vote : Bool) (votes : ℕ) (f : Fork) → forkPart g height vote votes f .refusal ≡ 0 → votingLength g ≤ 65535
+unfolding forkPart settingsLarge
 not-large g height vote votes f e = go (eqb (votingLength g) 0) (settingsLarge g) refl e
   where
-    go : (p q : Bool) → settingsLarge g ≡ q → cond p (roundRefused votingLengthZero) (cond q (roundRefused settingLarge) (roundFrom g height vote votes (f .start) (f .votes))) .refusal ≡ 0 → votingLength g ≤ 65535
+    go : (p q : Bool) → settingsLarge g ≡ q → cond p (forkRefused f votingLengthZero) (cond q (forkRefused f settingLarge) (byStart g height vote votes f (f .start))) .refusal ≡ 0 → votingLength g ≤ 65535
     go true q i x = absurd (omega arith)
     go false true i x = absurd (omega arith)
     go false false i x =
@@ -165,7 +165,7 @@ parts-met s height body votes u l e₀ =
     let w = both (eqb height (s .next)) (leb (height + votingLength g) (2 ^ 31)) (zero-test _ (a₁ .0)) in
     let off = disables (proposedUpdate body) (updateOf (proposedUpdate body) .update) 409 in
     let p = computed-passes g height (s .table) (entries (s .tally)) (boundaryVotes votes) (proposedUpdate body) (a₅ .0) in
-    let r = passed g height (s .table) (entries (s .tally)) (boundaryVotes votes) off (p .0) .round-passes in
+    let r = passed g height (s .table) (entries (s .tally)) (boundaryVotes votes) off (p .0) .part-passes in
     let m = not-large g height (boundaryVotes votes) (firstCount (pos softForkVote) (entries (s .tally))) (s .table .fork) r in
     record {
       long = l;

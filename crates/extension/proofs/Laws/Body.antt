@@ -3,7 +3,7 @@
 use mathlib.Core.Path.{_≡_, refl, sym, ap, _∙_}
 use mathlib.Core.Bool.{Bool, true, false, cond}
 use mathlib.Core.List.{List, [], _∷_}
-use Prim.Native.Nat.{ℕ, _+_, _-_, _≤_, _<_}
+use Prim.Native.Nat.{ℕ, zero, suc, _+_, _-_, _≤_, _<_}
 use native.Mathlib.Omega.{arith}
 use borrow.Author.Tests.{lt-ltb, le-ltb, ltb-false, eq-eqb, ne-eqb}
 use lib.Dec.{ltb}
@@ -18,7 +18,10 @@ use Rattle.extension.specs.declared.section.Parsed.{Parsed}
 use Rattle.extension.specs.declared.body.FieldPlace.{FieldPlace}
 use Rattle.extension.specs.declared.body.FieldAt.the-variants.{HasField, NoField}
 use Rattle.extension.specs.Section.{got, bad, listing, closed, sectionItems, refusedSection, part, any}
-use Rattle.extension.specs.Body.{Field, fieldAt, fieldReading, readField, fieldsFrom, extensionOf, fieldsOf, headerId, bodyField, valueOf, fieldValue, updateKey, updateIn, proposedUpdate, wrongSize, wrongParameter, checkBody}
+use Rattle.extension.specs.Body.{Field, fieldAt, fieldReading, readField, fieldsFrom, extensionOf, fieldsOf, headerId, bodyField, valueOf, fieldValue, updateKey, updateIn, proposedUpdate, wrongSize, wrongParameter, sizesRefusal, checkBody}
+use Rattle.voting.specs.Common.{gate}
+use Rattle.voting.proofs.Laws.Tests.{by-test}
+use Rattle.extension.proofs.Laws.Section.{closed-refused, no-items}
 use Rattle.extension.proofs.Laws.Parts.{part-length}
 
 -- what stands at a position, by the tests in order
@@ -142,19 +145,47 @@ module _ (s : List ℕ) (x : Parsed) (is-x : x ≡ extensionOf s) where
   pub id-size : x .refusal ≡ 0 → 32 ≡ length (take 32 s)
   id-size z = sym (length-take-le 32 s (opened s (ap (λ (y : Parsed). y .refusal) (sym is-x) ∙ z) .has-id))
 
-  -- 6, by whether a parameter has another size
-  module _ (w : Bool) (is-w : w ≡ any wrongParameter (sectionItems (readField s) (x .section))) where
-    wrong-is : w ≡ any wrongParameter (fieldsOf s)
-    unfolding fieldsOf
-    wrong-is = is-w ∙ ap (λ (y : Parsed). any wrongParameter (sectionItems (readField s) (y .section))) is-x
+-- a body that is refused is refused as a whole, and has no fields
+fields-refused : (body : List ℕ) (r : Read) (k : ℕ) → fieldsFrom body r .refusal ≡ suc k → fieldsFrom body r ≡ refusedSection (suc k)
+unfolding fieldsFrom
+fields-refused body Unreadable k e = ap refusedSection e
+fields-refused body (Value m) k e = closed-refused (m .value) (m .next) _ k e
 
-    pub check-wrong : w ≡ true → refusedSection parameterSize ≡ checkBody s
-    unfolding checkBody
-    check-wrong t = rw (← wrong-is, t)
+body-refused : (s : List ℕ) (k : ℕ) → extensionOf s .refusal ≡ suc k → extensionOf s ≡ refusedSection (suc k)
+unfolding extensionOf
+body-refused s k = go (ltb 65536 (length s)) (ltb (length s) 32)
+  where
+    go : (a b : Bool) → cond a (refusedSection inputLong) (cond b (refusedSection bodyShort) (fieldsFrom s (vlqAt 32 s 32))) .refusal ≡ suc k
+        → cond a (refusedSection inputLong) (cond b (refusedSection bodyShort) (fieldsFrom s (vlqAt 32 s 32))) ≡ refusedSection (suc k)
+    go true b e = ap refusedSection e
+    go false true e = ap refusedSection e
+    go false false e = fields-refused s (vlqAt 32 s 32) k e
 
-    pub check-right : w ≡ false → x ≡ checkBody s
-    unfolding checkBody
-    check-right t = rw (← wrong-is, t) is-x
+none-wrong : (s : List ℕ) (k : ℕ) → extensionOf s .refusal ≡ suc k → any wrongParameter (fieldsOf s) ≡ false
+unfolding fieldsOf any
+none-wrong s k e = ap (λ (x : Parsed). any wrongParameter (sectionItems (readField s) (x .section))) (body-refused s k e) ∙ ap (any wrongParameter) (no-items (readField s))
+
+-- so 6 may be tested alone: a refused body has no parameter of another size
+pub check-body-by : (s : List ℕ) → checkBody s ≡ cond (any wrongParameter (fieldsOf s)) (refusedSection parameterSize) (extensionOf s)
+unfolding checkBody sizesRefusal gate
+check-body-by s = go (extensionOf s .refusal) refl
+  where
+    go : (n : ℕ) → extensionOf s .refusal ≡ n
+        → gate refusedSection n (gate refusedSection (cond (any wrongParameter (fieldsOf s)) parameterSize 0) (extensionOf s)) ≡ cond (any wrongParameter (fieldsOf s)) (refusedSection parameterSize) (extensionOf s)
+    go zero e = by-test (any wrongParameter (fieldsOf s)) (λ t. rw t) (λ t. rw t)
+    go (suc k) e = rw (none-wrong s k e) (sym (body-refused s k e))
+
+-- 6, by whether a parameter has another size
+module _ (s : List ℕ) (x : Parsed) (is-x : x ≡ extensionOf s) (w : Bool) (is-w : w ≡ any wrongParameter (sectionItems (readField s) (x .section))) where
+  wrong-is : w ≡ any wrongParameter (fieldsOf s)
+  unfolding fieldsOf
+  wrong-is = is-w ∙ ap (λ (y : Parsed). any wrongParameter (sectionItems (readField s) (y .section))) is-x
+
+  pub check-wrong : w ≡ true → refusedSection parameterSize ≡ checkBody s
+  check-wrong t = sym (check-body-by s ∙ rw (← wrong-is, t))
+
+  pub check-right : w ≡ false → x ≡ checkBody s
+  check-right t = is-x ∙ sym (check-body-by s ∙ rw (← wrong-is, t))
 
 -- a position of a body
 module _ (s : List ℕ) (at : ℕ) where

@@ -15,13 +15,13 @@ use Rattle.voting.specs.declared.table.Table.{Table}
 use Rattle.voting.specs.declared.tally.Entry.{Entry}
 use Rattle.voting.specs.declared.fork.Round.{Round}
 use Rattle.voting.specs.declared.boundary.Boundary.{Boundary}
-use Rattle.voting.specs.Common.{eqZ}
+use Rattle.voting.specs.Common.{eqZ, gate}
 use Rattle.voting.specs.Settings.{changeApproved, settingsLarge}
 use Rattle.voting.specs.Table.{lookup, update}
 use Rattle.voting.specs.Tally.{firstCount}
-use Rattle.voting.specs.ForkPart.{noRound, roundFrom, roundAt, storedOr, votesAfter, startAfter, risen, forced, versionAfter, forkAfter}
+use Rattle.voting.specs.ForkPart.{noRound, begun, versionBy, twoForOne, forced, finished, opening, byStart, forkPart}
 use Rattle.voting.specs.Ordinary.{leastOf, greatestOf, fixedStepOf, stepSize, raised, lowered, moved, known, onward, counts, writes, approvedVote, voted, ordinaryVotes}
-use Rattle.voting.specs.Boundary.{gate, isNumber, isAbsent, withSubblocks, afterVotes, afterFork, afterRound, boundaryOf}
+use Rattle.voting.specs.Boundary.{isNumber, isAbsent, withSubblocks, boundaryOf}
 use Rattle.voting.proofs.Laws.Order.{SameBoundary, boundary-same}
 use Rattle.extension.specs.declared.update.Update.{Update}
 use Rattle.extension.specs.declared.boundary.Computed.{Computed}
@@ -73,7 +73,7 @@ differ : onlyFirst (pos 2500000) ≡ onlyFirst (pos 2475000) → ⊥
 differ e = let q : _≡_ {A = ℕ} 2500000 2475000 = sym (first-is 2500000) ∙ ap first e ∙ first-is 2475000 in omega arith
 
 pub order-matters : OrderMatters
-unfolding eqZ changeApproved settingsLarge lookup update firstCount roundFrom roundAt storedOr votesAfter startAfter risen forced versionAfter forkAfter leastOf greatestOf fixedStepOf stepSize raised lowered moved known onward counts writes approvedVote voted ordinaryVotes gate isNumber isAbsent withSubblocks afterVotes afterFork afterRound boundaryOf updateOf activates withUpdate computedOf
+unfolding eqZ changeApproved settingsLarge lookup update firstCount begun versionBy twoForOne forced finished opening byStart forkPart leastOf greatestOf fixedStepOf stepSize raised lowered moved known onward counts writes approvedVote voted ordinaryVotes gate isNumber isAbsent withSubblocks boundaryOf updateOf activates withUpdate computedOf
 order-matters =
     record {
       exchanged = List·Permᴰ·swap refl refl;

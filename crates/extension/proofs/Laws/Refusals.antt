@@ -12,6 +12,7 @@ use Rattle.codec.specs.Rule.{ruleOf}
 use Rattle.codec.specs.Vlq.{vlqAt}
 use Rattle.codec.specs.declared.vlq.Read.{Read}
 use Rattle.codec.specs.declared.vlq.Read.the-variants.{Value, Unreadable}
+use Rattle.extension.proofs.Laws.Body.{check-body-by}
 use Rattle.voting.specs.ForkPart.{noRound}
 use Rattle.voting.specs.Boundary.{boundaryOf}
 use Rattle.voting.specs.declared.settings.VotingConfig.{VotingConfig}
@@ -61,8 +62,8 @@ fields-other body Unreadable = refl
 fields-other body (Value m) = listing-other (readField body) (field-other body) (m .value) (m .value) (m .next) (m .next)
 
 pub body-other : (body : List ℕ) → Other (checkBody body .refusal)
-unfolding checkBody extensionOf
-body-other body = go (any wrongParameter (fieldsOf body)) (ltb 65536 (length body)) (ltb (length body) 32)
+unfolding extensionOf
+body-other body = rw (check-body-by body) (go (any wrongParameter (fieldsOf body)) (ltb 65536 (length body)) (ltb (length body) 32))
   where
     go : (a b c : Bool)
         → Other (cond a (refusedSection parameterSize) (cond b (refusedSection inputLong) (cond c (refusedSection bodyShort) (fieldsFrom body (vlqAt 32 body 32)))) .refusal)

@@ -1,12 +1,12 @@
 -- Items one after another, by what stands at a position; and tests of a list's elements.
 -- Assumes nothing.
-use mathlib.Core.Path.{_≡_, sym, ap, _∙_}
+use mathlib.Core.Path.{_≡_, refl, sym, ap, _∙_}
 use mathlib.Core.Bool.{Bool, true, false}
 use mathlib.Core.List.{List, [], _∷_}
 use Prim.Native.Nat.{ℕ, zero, suc, _-_, _≤_, _<_}
 use native.Mathlib.Numerals.{sub-one}
 use native.Mathlib.Omega.{arith}
-use Rattle.extension.specs.Section.{Reading, got, bad, Listing, done, stop, item, after, listing, items, section, refusedSection, closed, any}
+use Rattle.extension.specs.Section.{Reading, got, bad, Listing, done, stop, item, after, listing, items, section, noSection, refusedSection, closed, sectionItems, any}
 
 module _ {A : Type 0} (read : ℕ → Reading A) (n at : ℕ) where
   pub listing-none : n ≤ 0 → listing read n at ≡ done at
@@ -55,6 +55,17 @@ module _ {A : Type 0} (n begin : ℕ) (l : Listing A) where
   closed-item a rest e = rw e
 
 -- the items
+-- items that are refused have no place
+pub closed-refused : {A : Type 0} (n begin : ℕ) (l : Listing A) (k : ℕ) → closed n begin l .refusal ≡ suc k → closed n begin l ≡ refusedSection (suc k)
+unfolding closed
+closed-refused n begin (done end) k e = absurd (omega arith)
+closed-refused n begin (stop r) k e = ap refusedSection e
+closed-refused n begin (item a l) k e = closed-refused n begin l k e
+
+pub no-items : {A : Type 0} (read : ℕ → Reading A) → sectionItems read noSection ≡ []
+unfolding sectionItems listing items
+no-items read = refl
+
 module _ {A : Type 0} (l : Listing A) where
   pub items-done : (end : ℕ) → l ≡ done end → items l ≡ []
   unfolding items

@@ -1,7 +1,7 @@
 -- The fork check and the fork part, by the ways through the code.
 -- Assumes nothing.
 use mathlib.Core.Path.{_≡_, refl, sym, ap, _∙_}
-use mathlib.Core.Bool.{Bool, true, false, not, cond, _&&_, _||_, true≢false}
+use mathlib.Core.Bool.{Bool, true, false, not, cond, _&&_, _||_, true≢false, false≢true}
 use Prim.Native.Nat.{ℕ, _+_, _*_, _<_, _^_}
 use mathlib.Core.List.{List}
 use lib.Dec.{ltb, leb, eqb}
@@ -17,19 +17,22 @@ use Rattle.voting.specs.declared.table.Value.{Value}
 use Rattle.voting.specs.declared.table.Value.the-variants.{Absent, Number}
 use Rattle.voting.specs.declared.table.Fork.{Fork}
 use Rattle.voting.specs.declared.table.Table.{Table}
+use Rattle.voting.specs.declared.fork.Phase.{Phase}
 use Rattle.voting.specs.declared.fork.Round.{Round}
-use Rattle.voting.specs.declared.fork.RoundAt.{RoundAt}
+use Rattle.voting.specs.declared.fork.Forked.{Forked}
+use Rattle.voting.specs.declared.fork.ForkPart.{ForkPart}
 use Rattle.voting.specs.declared.fork.ForkVote.{ForkVote}
 use Rattle.voting.specs.declared.fork.ForkVote.the-variants.{Allowed, Barred, Refused}
 use Rattle.codec.specs.Signed.{signedOf, wrapped}
 use Rattle.codec.proofs.Laws.Signed.{wrapped-natural, wrapped-pos}
-use Rattle.voting.specs.Common.{eqZ}
-use Rattle.voting.specs.Settings.{votingLength, voteEpochs, activationEpochs, softForkApproved, settingsLarge}
+use Rattle.voting.specs.Common.{gate}
+use Rattle.voting.specs.Settings.{votingLength, voteEpochs, activationEpochs, version2Height, softForkApproved, settingsLarge}
 use Rattle.voting.specs.Table.{lookup, forkEntries}
 use Rattle.voting.specs.Header.{softForkVote, votesFor}
 use Rattle.voting.specs.ForkCheck.{epochsAfter, between, barred, checkRound, checkForkVote, forkRefusal, roundOpen, votesOpen}
-use Rattle.voting.specs.ForkPart.{noRound, happens, roundRefused, forkTotal, roundSteps, roundBy, roundFrom, roundAt, storedOr, votesAfter, startAfter, risen, forced, versionAfter}
+use Rattle.voting.specs.ForkPart.{noRound, forkRefused, phaseAt, forkTotal, readsTotal, closesLate, closesEarly, restarts, rises, without, begun, collected, oneMore, versionBy, risen, fiveSteps, roundSteps, forced, finished, running, byStart, forkPart}
 use Rattle.voting.proofs.Laws.Integers.{at-exactly, at-most, at-least, below}
+use Rattle.voting.proofs.Laws.Tests.{gate-stop, gate-pass}
 
 -- a shifted height, as the code has it: the start is read back from its bits
 pub plain : (g : VotingConfig) (s : ℤ) (k r : ℕ) → SFits w32 s → pos r ≡ (toZ w32 (ofZ w32 s) +ℤ pos (votingLength g * k)) +ℤ pos 2147483648 → pos r ≡ epochsAfter g s k +ℤ pos 2147483648
@@ -46,12 +49,11 @@ unfolding barred between
 barred-by g h s n from early late ap′ a b c q =
     rw (at-least h from (epochsAfter g s (voteEpochs g)) a, below h early (epochsAfter g s (voteEpochs g + 1)) b, below h late (epochsAfter g s (voteEpochs g + activationEpochs g + 1)) c, q)
 
-pub open-by : (g : VotingConfig) (h : ℕ) (vote : Bool) (votes : ℕ) (s : ℤ) (collected : Value) (late early voting rising : ℕ)
+pub phase-is : (g : VotingConfig) (h : ℕ) (s : ℤ) (late early voting rising : ℕ)
     → Shifted g s (voteEpochs g + activationEpochs g + 1) late → Shifted g s (voteEpochs g + 1) early → Shifted g s (voteEpochs g) voting → Shifted g s (voteEpochs g + activationEpochs g) rising
-    → roundBy g (eqb (h + 2147483648) late) (eqb (h + 2147483648) early) (leb (h + 2147483648) voting) (eqb (h + 2147483648) rising) vote votes collected
-    ≡ roundFrom g h vote votes (Number s) collected
-unfolding roundFrom
-open-by g h vote votes s collected late early voting rising a b c d =
+    → record { late = eqb (h + 2147483648) late; early = eqb (h + 2147483648) early; voting = leb (h + 2147483648) voting; rising = eqb (h + 2147483648) rising } ≡ phaseAt g h s
+unfolding phaseAt
+phase-is g h s late early voting rising a b c d =
     rw (at-exactly h late (epochsAfter g s (voteEpochs g + activationEpochs g + 1)) a, at-exactly h early (epochsAfter g s (voteEpochs g + 1)) b, at-most h voting (epochsAfter g s (voteEpochs g)) c, at-exactly h rising (epochsAfter g s (voteEpochs g + activationEpochs g)) d)
 
 -- ---- the fork check
@@ -133,88 +135,111 @@ open-allows g end t e h votes b = go (settingsLarge g) (votesFor softForkVote vo
     go false true e = round-allows g end h (lookup t 122) (lookup t 121) e b
     go false false e = refl
 
--- ---- what happens to a round
+-- ---- the fork part
 
 pub total-is : (votes : ℕ) (n : ℤ) → votes < 2 ^ 32 → SFits w32 n → (a r : ℤ) → a ≡ signedOf 32 votes → r ≡ wrapped 32 (a +ℤ n) → r ≡ forkTotal votes n
 unfolding forkTotal
 total-is votes n h f a r is-a is-r = is-r ∙ ap (λ (z : ℤ). wrapped 32 (z +ℤ n)) is-a ∙ wrapped-natural w32 votes n h f
 
-module _ (g : VotingConfig) (late early voting rising vote : Bool) (votes : ℕ) (collected : Value) where
-  pub by-orphan : (t : Bool) → (late || early || voting || rising) ≡ t → collected ≡ Absent → cond t (roundRefused 19) (happens noRound) ≡ roundBy g late early voting rising vote votes collected
-  unfolding roundBy
-  by-orphan t e q = rw (q, e)
+pub begun-at : (opens : Bool) (h : ℕ) (f : Fork) (z : ℤ) → h < 2 ^ 32 → z ≡ signedOf 32 h → opens ≡ true → forkEntries (Number (pos 0)) (Number z) (f .version) ≡ begun opens h f
+unfolding begun
+begun-at opens h f z l is-z e = rw (e, is-z, wrapped-pos w32 h l)
 
-  pub by-total : (n total : ℤ) (approved : Bool) (r : Round) → collected ≡ Number n → total ≡ forkTotal votes n → approved ≡ softForkApproved g total → r ≡ roundSteps late early voting rising vote approved total
-      → happens r ≡ roundBy g late early voting rising vote votes collected
-  unfolding roundBy
-  by-total n total approved r q is-t is-a is-r = rw (q, ← is-t, ← is-a, ← is-r)
+-- a version that is changed, or not
+module _ (next : ℤ → ℤ) (f : Fork) where
+  pub version-stays : (changes : Bool) → not changes ≡ true → record { refusal = 0; fork = f } ≡ versionBy changes next f (f .version)
+  unfolding versionBy
+  version-stays true e = absurd (false≢true e)
+  version-stays false e = go (f .version) refl
+    where
+      go : (v : Value) → f .version ≡ v → record { refusal = 0; fork = f } ≡ versionBy false next f v
+      go Absent q = refl
+      go (Number z) q = rw (← q)
+
+  pub version-absent : (changes : Bool) → not changes ≡ false → f .version ≡ Absent → record { refusal = 20; fork = f } ≡ versionBy changes next f (f .version)
+  unfolding versionBy
+  version-absent true e q = sym (ap (versionBy true next f) q)
+  version-absent false e q = absurd (true≢false e)
+
+  pub version-next : (changes : Bool) → not changes ≡ false → (z n : ℤ) → f .version ≡ Number z → n ≡ next z
+      → record { refusal = 0; fork = forkEntries (f .votes) (f .start) (Number n) } ≡ versionBy changes next f (f .version)
+  unfolding versionBy
+  version-next true e z n q is-n = ap {B = Forked} (λ (y : ℤ). record { refusal = 0; fork = forkEntries (f .votes) (f .start) (Number y) }) is-n ∙ sym (ap (versionBy true next f) q)
+  version-next false e z n q is-n = absurd (true≢false e)
+
+-- the steps' entries and then the forced version
+module _ (g : VotingConfig) (h : ℕ) (old : Fork) (round : Round) (f : Forked) where
+  pub steps-stop : (f .refusal ≡ 0 → ⊥) → forkRefused old (f .refusal) ≡ finished g h old round f
+  unfolding finished
+  steps-stop d = gate-stop (forkRefused old) (f .refusal) _ d
+
+  module _ (z : f .refusal ≡ 0) (last : Forked) (is-last : last ≡ forced (eqb h (version2Height g)) (f .fork)) where
+    pub forced-stop : (last .refusal ≡ 0 → ⊥) → forkRefused old (last .refusal) ≡ finished g h old round f
+    unfolding finished
+    forced-stop d = rw (← is-last) (gate-stop (forkRefused old) (last .refusal) _ d ∙ gate-pass (forkRefused old) (f .refusal) _ z)
+
+    pub forced-pass : last .refusal ≡ 0 → record { refusal = 0; fork = last .fork; round = round } ≡ finished g h old round f
+    unfolding finished
+    forced-pass e = rw (← is-last) (gate-pass (forkRefused old) (last .refusal) _ e ∙ gate-pass (forkRefused old) (f .refusal) _ z)
+
+module _ (g : VotingConfig) (h : ℕ) (vote : Bool) (votes : ℕ) (old : Fork) (p : Phase) (collected : Value) where
+  pub running-orphan : collected ≡ Absent → readsTotal p ≡ true → forkRefused old 19 ≡ running g h vote votes old p collected
+  unfolding running
+  running-orphan q e = rw (q, e)
+
+  pub running-unread : collected ≡ Absent → readsTotal p ≡ false → finished g h old noRound (record { refusal = 0; fork = old }) ≡ running g h vote votes old p collected
+  unfolding running
+  running-unread q e = rw (q, e)
+
+  pub running-on : (n total : ℤ) (approved : Bool) (round : Round) (f : Forked) → collected ≡ Number n → total ≡ forkTotal votes n → approved ≡ softForkApproved g total
+      → round ≡ roundSteps p vote approved total → f ≡ fiveSteps p vote approved total h old → finished g h old round f ≡ running g h vote votes old p collected
+  unfolding running
+  running-on n total approved round f q is-t is-a is-r is-f = rw (q, is-r, is-f, is-a, is-t)
 
 module _ (g : VotingConfig) (h : ℕ) (vote : Bool) (votes : ℕ) (old : Fork) where
-  pub at-zero : votingLength g ≡ 0 → roundRefused 17 ≡ roundAt g h vote votes old
-  unfolding roundAt
-  at-zero e = rw (eq-eqb (votingLength g) 0 e)
+  pub part-zero : votingLength g ≡ 0 → forkRefused old 17 ≡ forkPart g h vote votes old
+  unfolding forkPart
+  part-zero e = rw (eq-eqb (votingLength g) 0 e)
 
   module _ (some : votingLength g ≡ 0 → ⊥) (large : Bool) (is-large : large ≡ settingsLarge g) where
-    pub at-large : large ≡ true → roundRefused 18 ≡ roundAt g h vote votes old
-    unfolding roundAt
-    at-large e = rw (ne-eqb (votingLength g) 0 some, ← is-large, e)
+    pub part-large : large ≡ true → forkRefused old 18 ≡ forkPart g h vote votes old
+    unfolding forkPart
+    part-large e = rw (ne-eqb (votingLength g) 0 some, ← is-large, e)
 
-    pub at-round : large ≡ false → (start : Value) → old .start ≡ start → (r : RoundAt) → r ≡ roundFrom g h vote votes start (old .votes) → r ≡ roundAt g h vote votes old
-    unfolding roundAt
-    at-round e start is-s r is-r = rw (ne-eqb (votingLength g) 0 some, ← is-large, e, is-s) is-r
+    pub part-by : large ≡ false → (start : Value) → old .start ≡ start → (r : ForkPart) → r ≡ byStart g h vote votes old start → r ≡ forkPart g h vote votes old
+    unfolding forkPart
+    part-by e start is-s r is-r = is-r ∙ ap (byStart g h vote votes old) (sym is-s) ∙ sym (rw (ne-eqb (votingLength g) 0 some, ← is-large, e))
 
--- ---- the entries after it
+-- ---- the entries after the five steps, entry by entry, where there is a version
 
-module _ (r : Round) (old : Value) where
-  pub votes-stored : (n : ℤ) → r .total ≡ Number n → r .total ≡ votesAfter r old
-  unfolding votesAfter storedOr
-  votes-stored n e = rw e
+without-is : (closes : Bool) (votes start version : Value) → without closes (forkEntries votes start version) ≡ forkEntries (cond closes Absent votes) (cond closes Absent start) version
+unfolding without
+without-is true votes start version = refl
+without-is false votes start version = refl
 
-  pub votes-opened : r .total ≡ Absent → r .opened ≡ true → Number (pos 0) ≡ votesAfter r old
-  unfolding votesAfter storedOr
-  votes-opened e o = rw (e, o)
+pub begun-is : (opens : Bool) (h : ℕ) (votes start version : Value)
+    → begun opens h (forkEntries votes start version) ≡ forkEntries (cond opens (Number (pos 0)) votes) (cond opens (Number (wrapped 32 (pos h))) start) version
+unfolding begun
+begun-is true h votes start version = refl
+begun-is false h votes start version = refl
 
-  pub votes-closed : r .total ≡ Absent → r .opened ≡ false → (t : Bool) → r .closed ≡ t → cond t Absent old ≡ votesAfter r old
-  unfolding votesAfter storedOr
-  votes-closed e o t q = rw (e, o, q)
+collected-is : (voting : Bool) (total : ℤ) (votes start version : Value) → collected voting total (forkEntries votes start version) ≡ forkEntries (cond voting (Number total) votes) start version
+unfolding collected
+collected-is true total votes start version = refl
+collected-is false total votes start version = refl
 
-module _ (r : Round) (h : ℕ) (old : Value) where
-  pub start-opened : (z : ℤ) → h < 2 ^ 32 → z ≡ signedOf 32 h → r .opened ≡ true → Number z ≡ startAfter r h old
-  unfolding startAfter
-  start-opened z l is-z o = rw o (ap (λ (y : ℤ). Number y) (is-z ∙ wrapped-pos w32 h l))
-
-  pub start-closed : r .opened ≡ false → (t : Bool) → r .closed ≡ t → cond t Absent old ≡ startAfter r h old
-  unfolding startAfter
-  start-closed o t q = rw (o, q)
-
-pub risen-by : (z r : ℤ) → r ≡ wrapped 32 (z +ℤ pos 1) → (rose : Bool) → rose ≡ true → r ≡ risen rose z
-unfolding risen
-risen-by z r e rose t = rw t e
-
-pub not-risen : (z : ℤ) (rose : Bool) → rose ≡ false → z ≡ risen rose z
-unfolding risen
-not-risen z rose t = rw t
-
-pub forced-two : (at : Bool) (z : ℤ) → (at && eqZ z (pos 1)) ≡ true → pos 2 ≡ forced at z
-unfolding forced
-forced-two at z e = rw e
-
-pub not-forced : (at : Bool) (z : ℤ) → (at && eqZ z (pos 1)) ≡ false → z ≡ forced at z
-unfolding forced
-not-forced at z e = rw e
-
-module _ (rose at : Bool) (votes start : Value) (old : Fork) (version : Value) where
-  pub version-needed : version ≡ Absent → (rose || at) ≡ true → record { refusal = 20; fork = old } ≡ versionAfter rose at votes start old version
-  unfolding versionAfter
-  version-needed e q = rw (e, q)
-
-  pub no-version : version ≡ Absent → (rose || at) ≡ false → record { refusal = 0; fork = forkEntries votes start version } ≡ versionAfter rose at votes start old version
-  unfolding versionAfter
-  no-version e q = rw (e, q)
-
-  pub some-version : (z a b : ℤ) → version ≡ Number z → a ≡ risen rose z → b ≡ forced at a → record { refusal = 0; fork = forkEntries votes start (Number b) } ≡ versionAfter rose at votes start old version
-  unfolding versionAfter
-  some-version z a b e is-a is-b = rw (e, is-b, is-a)
+pub steps-are : (p : Phase) (vote approved : Bool) (total : ℤ) (h : ℕ) (votes start : Value) (z : ℤ)
+    → fiveSteps p vote approved total h (forkEntries votes start (Number z))
+    ≡ record {
+      refusal = 0;
+      fork = forkEntries
+          (cond (p .voting) (Number total) (cond (restarts p vote approved) (Number (pos 0)) (cond (closesEarly p approved) Absent (cond (closesLate p approved) Absent votes))))
+          (cond (restarts p vote approved) (Number (wrapped 32 (pos h))) (cond (closesEarly p approved) Absent (cond (closesLate p approved) Absent start)))
+          (Number (cond (rises p approved) (oneMore z) z));
+    }
+unfolding fiveSteps risen versionBy
+steps-are p vote approved total h votes start z =
+    rw (without-is (closesLate p approved) votes start (Number z), without-is (closesEarly p approved), begun-is (restarts p vote approved) h, collected-is (p .voting) total)
 
 -- a fork check that turns nobody down allows
 pub allowed : (g : VotingConfig) (h : ℕ) (start votes : Value) → forkRefusal (checkRound g h start votes) ≡ 0 → checkRound g h start votes ≡ Allowed

@@ -2,7 +2,7 @@
 -- Assumes nothing.
 use mathlib.Core.Path.{_≡_, refl, sym, ap, _∙_, subst, subst₂}
 use mathlib.Core.Logic.{_⊎_, inl, inr}
-use mathlib.Core.Bool.{Bool, true, false, cond}
+use mathlib.Core.Bool.{Bool, true, false, cond, _&&_}
 use mathlib.Core.List.{List, _∷_, List·Permᴰ, List·Permᴰ·nil, List·Permᴰ·cons, List·Permᴰ·swap, List·Permᴰ·trans}
 use Prim.Native.Nat.{ℕ, zero, suc, _<_}
 use native.Mathlib.Omega.{arith}
@@ -18,23 +18,22 @@ use Rattle.voting.specs.declared.table.Value.the-variants.{Number}
 use Rattle.voting.specs.declared.table.Table.{Table}
 use Rattle.voting.specs.declared.tally.Entry.{Entry}
 use Rattle.voting.specs.declared.fork.Round.{Round}
-use Rattle.voting.specs.declared.fork.RoundAt.{RoundAt}
-use Rattle.voting.specs.declared.fork.Forked.{Forked}
+use Rattle.voting.specs.declared.fork.ForkPart.{ForkPart}
 use Rattle.voting.specs.declared.ordinary.Voted.{Voted}
 use Rattle.voting.specs.declared.boundary.Boundary.{Boundary}
-use Rattle.voting.specs.Common.{eqZ, Each, Pairwise}
+use Rattle.voting.specs.Common.{eqZ, gate, Each, Pairwise}
 use Rattle.voting.specs.Table.{withFork, update}
 use Rattle.voting.specs.Header.{negation, softForkVote}
 use Rattle.voting.specs.Tally.{firstCount}
-use Rattle.voting.specs.ForkPart.{roundAt, forkAfter}
+use Rattle.voting.specs.ForkPart.{forkPart}
 use Rattle.voting.specs.Ordinary.{parameter, moved, known, passes, stops, onward, voted, ordinaryVotes}
-use Rattle.voting.specs.Boundary.{refuses, gate, afterVotes, afterFork, afterRound, boundaryOf}
+use Rattle.voting.specs.Boundary.{refuses, withSubblocks, boundaryOf}
 use Rattle.voting.specs.Order.{Compatible, Consistent, NoParameter, SameRefusal}
 use Rattle.voting.proofs.Laws.Integers.{eqZ-true}
 use Rattle.voting.proofs.Laws.Each.{pairwise}
 use Rattle.voting.proofs.Laws.Table.{known-range, update-comm}
 use Rattle.voting.proofs.Laws.Ordinary.{by-vote}
-use Rattle.voting.proofs.Laws.Boundary.{gate-stop}
+use Rattle.voting.proofs.Laws.Tests.{gate-stop}
 
 -- ---- statements of every two elements, in another order
 
@@ -226,37 +225,40 @@ pub record SameBoundary (x y : Boundary) : Type 0 where
 equal : (x y : Boundary) → x ≡ y → SameBoundary x y
 equal x y e = record { refusal = inl (ap (λ (b : Boundary). b .refusal) e); table = ap (λ (b : Boundary). b .table) e; round = ap (λ (b : Boundary). b .round) e }
 
-gate-same : (t : Table) (n : ℕ) (x y : Boundary) → SameBoundary x y → SameBoundary (gate t n x) (gate t n y)
+gate-same : (t : Table) (n : ℕ) (x y : Boundary) → SameBoundary x y → SameBoundary (gate (refuses t) n x) (gate (refuses t) n y)
 unfolding gate
 gate-same t zero x y h = h
 gate-same t (suc n) x y h = equal (refuses t (suc n)) (refuses t (suc n)) refl
 
-both-stop : (t : Table) (n m : ℕ) (x y : Boundary) → NoParameter n → NoParameter m → SameBoundary (gate t n x) (gate t m y)
+both-stop : (t : Table) (n m : ℕ) (x y : Boundary) → NoParameter n → NoParameter m → SameBoundary (gate (refuses t) n x) (gate (refuses t) m y)
 both-stop t n m x y p q =
-    subst₂ SameBoundary (gate-stop t n x (not-zero n p)) (gate-stop t m y (not-zero m q)) (record { refusal = inr (p, q); table = refl; round = refl })
+    subst₂ SameBoundary (gate-stop (refuses t) n x (not-zero n p)) (gate-stop (refuses t) m y (not-zero m q)) (record { refusal = inr (p, q); table = refl; round = refl })
+
+-- after the votes, and after the fork part
+abbrev afterVotes : Table → Round → Bool → Voted → Boundary
+afterVotes t round disables v =
+    gate (refuses t) (v .refusal) (record { refusal = 0; table = withSubblocks (round .rose && disables) (v .table); round = round })
 
 after-votes-same : (t : Table) (round : Round) (disables : Bool) (v w : Voted) → SameVotes v w → SameBoundary (afterVotes t round disables v) (afterVotes t round disables w)
-unfolding afterVotes
 after-votes-same t round disables v w (inl e) = equal (afterVotes t round disables v) (afterVotes t round disables w) (ap (afterVotes t round disables) e)
 after-votes-same t round disables v w (inr h) = both-stop t (v .refusal) (w .refusal) _ _ (h .0) (h .1)
 
 module _ (g : VotingConfig) (height : ℕ) (t : Table) {xs ys : List Entry} (d : List·Permᴰ xs ys) (h : Pairwise Separate xs) (vote disables : Bool) where
-  after-fork-same : (round : Round) (f : Forked) → SameBoundary (afterFork g t xs disables round f) (afterFork g t ys disables round f)
-  unfolding afterFork
-  after-fork-same round f =
-      let from = withFork t (f .fork) in
-      gate-same t (f .refusal) _ _ (after-votes-same t round disables (ordinaryVotes g from xs from) (ordinaryVotes g from ys from) (votes-same g from d h from))
+  abbrev afterPart : List Entry → ForkPart → Boundary
+  afterPart tally part =
+      gate (refuses t) (part .refusal) (afterVotes t (part .round) disables (ordinaryVotes g (withFork t (part .fork)) tally (withFork t (part .fork))))
 
-  after-round-same : (r : RoundAt) → SameBoundary (afterRound g height t xs disables r) (afterRound g height t ys disables r)
-  unfolding afterRound
-  after-round-same r = gate-same t (r .refusal) _ _ (after-fork-same (r .round) (forkAfter g height (r .round) (t .fork)))
+  after-part-same : (part : ForkPart) → SameBoundary (afterPart xs part) (afterPart ys part)
+  after-part-same part =
+      let from = withFork t (part .fork) in
+      gate-same t (part .refusal) _ _ (after-votes-same t (part .round) disables (ordinaryVotes g from xs from) (ordinaryVotes g from ys from) (votes-same g from d h from))
 
   separate-same : SameBoundary (boundaryOf g height t xs vote disables) (boundaryOf g height t ys vote disables)
   unfolding boundaryOf
   separate-same =
-      subst (λ (n : ℕ). SameBoundary (boundaryOf g height t xs vote disables) (afterRound g height t ys disables (roundAt g height vote n (t .fork))))
+      subst (λ (n : ℕ). SameBoundary (boundaryOf g height t xs vote disables) (afterPart ys (forkPart g height vote n (t .fork))))
       (count-same d h)
-      (after-round-same (roundAt g height vote (forkCount xs) (t .fork)))
+      (after-part-same (forkPart g height vote (forkCount xs) (t .fork)))
 
 pub boundary-same : (g : VotingConfig) (height : ℕ) (t : Table) {xs ys : List Entry} → List·Permᴰ xs ys → Consistent xs → (vote disables : Bool)
     → SameBoundary (boundaryOf g height t xs vote disables) (boundaryOf g height t ys vote disables)

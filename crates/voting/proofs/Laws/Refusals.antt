@@ -7,15 +7,15 @@ use Prim.Native.Nat.{ℕ, zero, suc}
 use lib.Dec.{ltb, eqb}
 use lib.IntN.{ℤ, pos}
 use Rattle.codec.specs.Refusal.{tooManyVotes, repeatedVote, contradictoryVote, entryDiffers, votingLengthZero, settingLarge, votesCollectedAbsent}
-use Rattle.voting.specs.Common.{eqZ, count, first}
+use Rattle.voting.specs.Common.{eqZ, count, first, gate}
 use Rattle.voting.specs.Settings.{votingLength, settingsLarge}
 use Rattle.voting.specs.Table.{lookup, withFork}
 use Rattle.voting.specs.Tally.{firstCount}
 use Rattle.voting.specs.Header.{votesIn, negation, softForkVote, ordinaryVote, votesFor, fault, faultIn, checkVotes, checkHeaderVotes}
 use Rattle.voting.specs.ForkCheck.{barred, checkRound, checkForkVote, forkRefusal}
-use Rattle.voting.specs.ForkPart.{noRound, happens, roundRefused, roundBy, roundFrom, roundAt, versionAfter, forkAfter}
+use Rattle.voting.specs.ForkPart.{noRound, forkRefused, phaseAt, readsTotal, versionBy, risen, fiveSteps, forced, finished, running, opening, byStart, forkPart}
 use Rattle.voting.specs.Ordinary.{onward, voted, ordinaryVotes}
-use Rattle.voting.specs.Boundary.{gate, afterVotes, afterFork, afterRound, boundaryOf}
+use Rattle.voting.specs.Boundary.{refuses, boundaryOf}
 use Rattle.voting.specs.declared.settings.VotingConfig.{VotingConfig}
 use Rattle.voting.specs.declared.table.Value.{Value}
 use Rattle.voting.specs.declared.table.Value.the-variants.{Absent, Number}
@@ -23,7 +23,12 @@ use Rattle.voting.specs.declared.table.Fork.{Fork}
 use Rattle.voting.specs.declared.table.Table.{Table}
 use Rattle.voting.specs.declared.tally.Entry.{Entry}
 use Rattle.voting.specs.declared.fork.ForkVote.the-variants.{Allowed, Barred, Refused}
+use Rattle.voting.specs.declared.fork.Phase.{Phase}
+use Rattle.voting.specs.declared.fork.Round.{Round}
+use Rattle.voting.specs.declared.fork.Forked.{Forked}
+use Rattle.voting.specs.declared.fork.ForkPart.{ForkPart}
 use Rattle.voting.specs.declared.boundary.Boundary.{Boundary}
+use Rattle.voting.proofs.Laws.Tests.{gate-by}
 use Rattle.voting.proofs.Laws.Ordinary.{by-vote}
 
 -- a number that is not 15
@@ -86,35 +91,44 @@ fork-vote-other g height votes t = go (settingsLarge g) (votesFor softForkVote v
     go false false = refl
 
 -- the boundary: 17 to 20, 13 and 14
-round-by-other : (g : VotingConfig) (late early voting rising vote : Bool) (votes : ℕ) (collected : Value) → Other (roundBy g late early voting rising vote votes collected .refusal)
-unfolding roundBy
-round-by-other g late early voting rising vote votes Absent = go (late || early || voting || rising)
+gate-other : {A : Type 0} (refuses : ℕ → A) (number : A → ℕ) → ((n : ℕ) → number (refuses n) ≡ n) → (n : ℕ) (x : A) → Other n → Other (number x) → Other (number (gate refuses n x))
+gate-other refuses number q n x p r = gate-by refuses (λ y. Other (number y)) n x (λ k e. rw (q (suc k), ← e) p) r
+
+version-other : (changes : Bool) (next : ℤ → ℤ) (f : Fork) (v : Value) → Other (versionBy changes next f v .refusal)
+unfolding versionBy
+version-other true next f Absent = refl
+version-other false next f Absent = refl
+version-other changes next f (Number z) = refl
+
+finished-other : (g : VotingConfig) (height : ℕ) (old : Fork) (round : Round) (f : Forked) → Other (f .refusal) → Other (finished g height old round f .refusal)
+unfolding finished forced
+finished-other g height old round f p =
+    let number : ForkPart → ℕ = λ x. x .refusal in
+    gate-other (forkRefused old) number (λ n. refl) (f .refusal) _ p
+    (gate-other (forkRefused old) number (λ n. refl) _ _ (version-other _ _ (f .fork) (f .fork .version)) refl)
+
+running-other : (g : VotingConfig) (height : ℕ) (vote : Bool) (votes : ℕ) (old : Fork) (p : Phase) (collected : Value) → Other (running g height vote votes old p collected .refusal)
+unfolding running fiveSteps risen
+running-other g height vote votes old p Absent = go (readsTotal p)
   where
-    go : (a : Bool) → Other (cond a (roundRefused votesCollectedAbsent) (happens noRound) .refusal)
+    go : (a : Bool) → Other (cond a (forkRefused old votesCollectedAbsent) (finished g height old noRound (record { refusal = 0; fork = old })) .refusal)
     go true = refl
-    go false = refl
-round-by-other g late early voting rising vote votes (Number collected) = refl
+    go false = finished-other g height old noRound (record { refusal = 0; fork = old }) refl
+running-other g height vote votes old p (Number n) = finished-other g height old _ _ (version-other _ _ _ _)
 
-round-from-other : (g : VotingConfig) (height : ℕ) (vote : Bool) (votes : ℕ) (start collected : Value) → Other (roundFrom g height vote votes start collected .refusal)
-unfolding roundFrom
-round-from-other g height vote votes Absent collected = refl
-round-from-other g height vote votes (Number start) collected = round-by-other g _ _ _ _ vote votes collected
+by-start-other : (g : VotingConfig) (height : ℕ) (vote : Bool) (votes : ℕ) (old : Fork) (start : Value) → Other (byStart g height vote votes old start .refusal)
+unfolding byStart opening
+by-start-other g height vote votes old Absent = finished-other g height old _ _ refl
+by-start-other g height vote votes old (Number s) = running-other g height vote votes old (phaseAt g height s) (old .votes)
 
-round-at-other : (g : VotingConfig) (height : ℕ) (vote : Bool) (votes : ℕ) (old : Fork) → Other (roundAt g height vote votes old .refusal)
-unfolding roundAt
-round-at-other g height vote votes old = go (eqb (votingLength g) 0) (settingsLarge g)
+fork-part-other : (g : VotingConfig) (height : ℕ) (vote : Bool) (votes : ℕ) (old : Fork) → Other (forkPart g height vote votes old .refusal)
+unfolding forkPart
+fork-part-other g height vote votes old = go (eqb (votingLength g) 0) (settingsLarge g)
   where
-    go : (a b : Bool) → Other (cond a (roundRefused votingLengthZero) (cond b (roundRefused settingLarge) (roundFrom g height vote votes (old .start) (old .votes))) .refusal)
+    go : (a b : Bool) → Other (cond a (forkRefused old votingLengthZero) (cond b (forkRefused old settingLarge) (byStart g height vote votes old (old .start))) .refusal)
     go true b = refl
     go false true = refl
-    go false false = round-from-other g height vote votes (old .start) (old .votes)
-
-version-other : (rose at : Bool) (votes start : Value) (old : Fork) (version : Value) → Other (versionAfter rose at votes start old version .refusal)
-unfolding versionAfter
-version-other true at votes start old Absent = refl
-version-other false true votes start old Absent = refl
-version-other false false votes start old Absent = refl
-version-other rose at votes start old (Number z) = refl
+    go false false = by-start-other g height vote votes old (old .start)
 
 module _ (g : VotingConfig) (from : Table) where
   voted-other : (e : Entry) (new : Table) → Other (voted g from e new .refusal)
@@ -129,16 +143,11 @@ module _ (g : VotingConfig) (from : Table) where
       go k true = k (voted g from e new .table)
       go k false = voted-other e new
 
-gate-other : (t : Table) (n : ℕ) (b : Boundary) → Other n → Other (b .refusal) → Other (gate t n b .refusal)
-unfolding gate
-gate-other t zero b p q = q
-gate-other t (suc n) b p q = p
-
 pub boundary-other : (g : VotingConfig) (height : ℕ) (t : Table) (tally : List Entry) (vote disables : Bool) → Other (boundaryOf g height t tally vote disables .refusal)
-unfolding boundaryOf afterRound afterFork afterVotes forkAfter
+unfolding boundaryOf
 boundary-other g height t tally vote disables =
     let votes = firstCount (pos softForkVote) tally in
-    let r = roundAt g height vote votes (t .fork) in
-    let f = forkAfter g height (r .round) (t .fork) in
-    gate-other t (r .refusal) _ (round-at-other g height vote votes (t .fork))
-    (gate-other t (f .refusal) _ (version-other _ _ _ _ (t .fork) (t .fork .version)) (gate-other t _ _ (votes-other g (withFork t (f .fork)) tally (withFork t (f .fork))) refl))
+    let from = withFork t (forkPart g height vote votes (t .fork) .fork) in
+    let number : Boundary → ℕ = λ x. x .refusal in
+    gate-other (refuses t) number (λ n. refl) _ _ (fork-part-other g height vote votes (t .fork))
+    (gate-other (refuses t) number (λ n. refl) _ _ (votes-other g from tally from) refl)

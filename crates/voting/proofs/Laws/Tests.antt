@@ -1,12 +1,13 @@
 -- Tests taken apart, and tests that say the same.
 -- Assumes nothing.
-use mathlib.Core.Path.{_≡_, refl, sym}
+use mathlib.Core.Path.{_≡_, refl, sym, _∙_}
 use mathlib.Core.Bool.{Bool, true, false, _&&_, _||_, false≢true, true≢false}
 use mathlib.Core.List.{List, [], _∷_}
-use Prim.Native.Nat.{ℕ, suc, _≤_, _<_}
+use Prim.Native.Nat.{ℕ, zero, suc, _≤_, _<_}
 use native.Mathlib.Omega.{arith}
 use lib.Dec.{ltb, leb, eqb}
 use borrow.Author.Tests.{leb-true, leb-false, eqb-true, eqb-false, le-leb, eq-eqb, ne-eqb}
+use Rattle.voting.specs.Common.{gate}
 
 -- the two ways of a test
 pub by-test : {P : Type 0} (b : Bool) → (b ≡ true → P) → (b ≡ false → P) → P
@@ -58,3 +59,28 @@ eqb-comm a b = go (eqb b a) refl
     go : (t : Bool) → eqb b a ≡ t → eqb a b ≡ t
     go true e = eq-eqb a b (sym (eqb-true b a e))
     go false e = ne-eqb a b (λ q. eqb-false b a e (sym q))
+
+-- ---- refusals in order
+
+module _ {A : Type 0} (refuses : ℕ → A) where
+  pub gate-stop : (n : ℕ) (x : A) → (n ≡ 0 → ⊥) → refuses n ≡ gate refuses n x
+  unfolding gate
+  gate-stop zero x d = absurd (d refl)
+  gate-stop (suc n) x d = refl
+
+  pub gate-pass : (n : ℕ) (x : A) → n ≡ 0 → x ≡ gate refuses n x
+  unfolding gate
+  gate-pass zero x e = refl
+  gate-pass (suc n) x e = absurd (omega arith)
+
+  -- what holds of a refusal and of what follows
+  pub gate-by : (P : A → Type 0) (n : ℕ) (x : A) → ((k : ℕ) → n ≡ suc k → P (refuses (suc k))) → P x → P (gate refuses n x)
+  unfolding gate
+  gate-by P zero x f g = g
+  gate-by P (suc n) x f g = f n refl
+
+  -- not refused: the number was 0, and what follows is the answer
+  pub gate-zero : (f : A → ℕ) → ((n : ℕ) → f (refuses n) ≡ n) → (n : ℕ) (x : A) → f (gate refuses n x) ≡ 0 → (n ≡ 0) × (gate refuses n x ≡ x)
+  unfolding gate
+  gate-zero f q zero x e = (refl, refl)
+  gate-zero f q (suc n) x e = absurd (let z : suc n ≡ 0 = sym (q (suc n)) ∙ e in omega arith)

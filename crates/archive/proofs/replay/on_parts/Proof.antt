@@ -29,7 +29,7 @@ after-boundary-requires c κs = (parts-low _ _ _ _ _ (c .before .before .before 
 returns-2 : tie.Need-returns-2
 returns-2 c =
     c .after-boundary .ensures
-    ∙ parts-pass _ _ _ _ _ (c .before .before .before .before .before .before .before .before .early-refusal .ensures) (c .before .before .before .before .before .before .before .if1 .left) _ (c .before .before .before .boundary-votes .ensures) _ (c .before .before .extract-disabling-rules-from-kv .ensures) _ (c .before .boundary-with-update .ensures)
+    ∙ parts-pass _ _ _ _ _ (c .before .before .before .before .before .before .before .before .early-refusal .ensures) (c .before .before .before .before .before .before .before .if1 .left) _ (c .before .before .before .boundary-votes .ensures) _ (c .before .before .extract-disabling-rules-from-kv .ensures) _ (c .before .boundary-with-update .ensures .0)
 
 pub on-parts-spec : {M : Type 1} → statement M
 on-parts-spec =

@@ -1,6 +1,7 @@
 -- `extension::boundary::boundary_with_update` meets its contract. Assumes nothing.
 use mathlib.Core.Path.{_∙_}
 use Rattle.extension.proofs.Laws.Boundary.{update-stop, update-pass}
+use Rattle.extension.proofs.Examples.{examples}
 use borrow.Author.Needs.{needs}
 use Rattle.extension.proofs.boundary.boundary_with_update.Statement.{statement}
 use Rattle.extension.proofs.boundary.boundary_with_update.Tie as tie
@@ -12,7 +13,7 @@ refused-requires : tie.Need-refused-requires
 refused-requires c κs = search needs
 
 returns : tie.Need-returns
-returns c = c .refused .ensures ∙ update-stop _ _ _ _ _ _ _ (c .before .before .parse-validation-settings-update .ensures .0) (c .before .if1 .taken)
+returns c = (c .refused .ensures ∙ update-stop _ _ _ _ _ _ _ (c .before .before .parse-validation-settings-update .ensures .0) (c .before .if1 .taken), examples)
 
 disables-requires : tie.Need-disables-requires
 disables-requires c κs = search needs
@@ -25,8 +26,13 @@ activates-requires c κs = search needs
 
 returns-2 : tie.Need-returns-2
 returns-2 c =
-    c .activates .ensures
-    ∙ update-pass _ _ _ _ _ _ _ (c .before .before .before .before .before .parse-validation-settings-update .ensures .0) (c .before .before .before .before .if1 .left) _ (c .before .before .disables .ensures) _ (c .before .boundary-parameters .ensures)
+    let computed = c .before in
+    let disabled = computed .before in
+    let parsed = disabled .before .before in (
+      c .activates .ensures
+          ∙ update-pass _ _ _ _ _ _ _ (parsed .before .parse-validation-settings-update .ensures .0) (parsed .if1 .left) _ (disabled .disables .ensures) _ (computed .boundary-parameters .ensures),
+      examples,
+    )
 
 pub boundary-with-update-spec : {M : Type 1} → statement M
 boundary-with-update-spec =

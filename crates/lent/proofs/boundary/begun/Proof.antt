@@ -1,5 +1,5 @@
 -- `lent::boundary::begun` meets its contract. Assumes nothing.
-use Rattle.lent.proofs.Laws.Sweep.{begins}
+use Rattle.lent.proofs.Laws.Carried.{begins}
 use borrow.Author.Needs.{needs}
 use Rattle.lent.proofs.boundary.begun.Statement.{statement}
 use Rattle.lent.proofs.boundary.begun.Tie as tie
@@ -10,9 +10,15 @@ parse-validation-settings-update-requires c κs = search needs
 disables-requires : tie.Need-disables-requires
 disables-requires c κs = search needs
 
+begin-requires : tie.Need-begin-requires
+begin-requires c κs = search needs
+
 returns : tie.Need-returns
-returns c = begins _ _ _ (c .before .before .before .parse-validation-settings-update .ensures .0) _ (c .before .disables .ensures)
+returns c =
+    let disabled = c .before .before in
+    begins _ _ _ (disabled .before .before .parse-validation-settings-update .ensures .0) _ (disabled .disables .ensures) _ (c .begin .ensures)
 
 pub begun-spec : {M : Type 1} → statement M
 begun-spec =
-    tie.close (tie.spec parse-validation-settings-update-requires disables-requires returns)
+    tie.close
+    (tie.spec parse-validation-settings-update-requires disables-requires begin-requires returns)

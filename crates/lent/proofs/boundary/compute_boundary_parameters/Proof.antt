@@ -54,18 +54,18 @@ use Rattle.voting.specs.declared.tally.Entry.{Entry}
 use Rattle.voting.specs.Tally.{noEntry}
 use Rattle.extension.specs.declared.boundary.Computed.{Computed}
 use Rattle.lent.specs.declared.boundary.BoundaryAt.{BoundaryAt}
-use Rattle.lent.specs.declared.boundary.Sweep.{Sweep}
-use Rattle.lent.specs.Sweep.{begunOf, sweptOf, sweepOf, finishedOf}
+use Rattle.lent.specs.declared.boundary.Carried.{Carried}
+use Rattle.lent.specs.Carried.{begunOf, sweptOf, sweepOf, finishedOf}
 use Rattle.extension.proofs.Laws.Order.{in-any-order}
-use Rattle.lent.proofs.Laws.Sweep.{sweep-here, sweep-end, swept-all}
+use Rattle.lent.proofs.Laws.Carried.{sweep-here, sweep-end, swept-all}
 use Rattle.voting.proofs.tally.Entry as T
 use Rattle.voting.proofs.tally.Entry.Laws as T′
 use Rattle.extension.proofs.boundary.Computed as C
 use Rattle.extension.proofs.boundary.Computed.Laws as C′
 use Rattle.lent.proofs.boundary.BoundaryAt as B
 use Rattle.lent.proofs.boundary.BoundaryAt.Laws as B′
-use Rattle.lent.proofs.boundary.Sweep as S
-use Rattle.lent.proofs.boundary.Sweep.Laws as S′
+use Rattle.lent.proofs.boundary.Carried as S
+use Rattle.lent.proofs.boundary.Carried.Laws as S′
 use Rattle.lent.proofs.boundary.begun as begun
 use Rattle.lent.proofs.boundary.begun.Symbol as begun-def
 use Rattle.lent.proofs.boundary.begun.Symbol.{name as #begun}
@@ -129,21 +129,21 @@ module _ {M : Type 1} (𝓤 : URA M) (H : Heap 𝓤) (A : Atoms 𝓤) (mem : Mem
   abbrev Begun : Contract 𝓤
   Begun = tripleOf 𝓤 H A begun.signature (begun.spec 𝓤 H A mem run)
 
-  begun-of : (κ : Lft) (a : BoundaryAt) (y : RefT (List ℕ)) (r : Sweep)
+  begun-of : (κ : Lft) (a : BoundaryAt) (y : RefT (List ℕ)) (r : Carried)
       → ent 𝓤 (ensured 𝓤 H A begun.ended (begun.clauses 𝓤 H A mem run) (κ, tt) (a, (y, tt)) tt r) (fact 𝓤 (r ≡ begunOf a (now y)))
   begun-of κ a y r = exE 𝓤 _ (λ ws. snd∗ 𝓤 (sem 𝓤 H A (lasts begun.ended (κ, tt) (a, (y, tt)) ws)) (fact 𝓤 (r ≡ begunOf a (now y))))
 
   abbrev Swept : Contract 𝓤
   Swept = tripleOf 𝓤 H A swept.signature (swept.spec 𝓤 H A mem run)
 
-  swept-of : (s : Sweep) (id : ℤ) (count : ℕ) (r : Sweep)
+  swept-of : (s : Carried) (id : ℤ) (count : ℕ) (r : Carried)
       → ent 𝓤 (ensured 𝓤 H A swept.ended (swept.clauses 𝓤 H A mem run) tt (s, (id, (count, tt))) tt r) (fact 𝓤 (r ≡ sweptOf s id count))
   swept-of s id count r = exE 𝓤 _ (λ ws. snd∗ 𝓤 (sem 𝓤 H A (lasts swept.ended tt (s, (id, (count, tt))) ws)) (fact 𝓤 (r ≡ sweptOf s id count)))
 
   abbrev Finished : Contract 𝓤
   Finished = tripleOf 𝓤 H A finished.signature (finished.spec 𝓤 H A mem run)
 
-  finished-of : (s : Sweep) (r : Computed) → ent 𝓤 (ensured 𝓤 H A finished.ended (finished.clauses 𝓤 H A mem run) tt (s, tt) tt r) (fact 𝓤 (r ≡ finishedOf s))
+  finished-of : (s : Carried) (r : Computed) → ent 𝓤 (ensured 𝓤 H A finished.ended (finished.clauses 𝓤 H A mem run) tt (s, tt) tt r) (fact 𝓤 (r ≡ finishedOf s))
   finished-of s r = exE 𝓤 _ (λ ws. snd∗ 𝓤 (sem 𝓤 H A (lasts finished.ended tt (s, tt) ws)) (fact 𝓤 (r ≡ finishedOf s)))
 
 module _ {M : Type 1} (𝓤 : URA M) (H : Heap 𝓤) (A : Atoms 𝓤) (W : Given 𝓤 H A) (mem : Memory → SProp 𝓤) (run : Routine → Fun 𝓤) (κ κ′ : Lft) (q q′ : Share)
@@ -177,7 +177,7 @@ module _ {M : Type 1} (𝓤 : URA M) (H : Heap 𝓤) (A : Atoms 𝓤) (W : Given
   Slice = ‵ (ShrSlice (named 0) κ R .own xs (sliceVal (b, o) n ∷ []))
 
   -- before the first entry
-  abbrev s₀ : Sweep
+  abbrev s₀ : Carried
   s₀ = begunOf a zs
 
   exits : (r : Computed) (v : Val) → r ≡ finishedOf (sweepOf s₀ ys) → ent 𝓤 (⋆ 𝓤 H A (‵ (flft κ q) ∷ ‵ (flft κ′ q′) ∷ ‵ (Z .own r (v ∷ [])) ∷ [])) (Post v)
@@ -201,25 +201,25 @@ module _ {M : Type 1} (𝓤 : URA M) (H : Heap 𝓤) (A : Atoms 𝓤) (W : Given
   abbrev entry : ℕ → Entry
   entry i = getD ys i noEntry
 
-  abbrev to-swept : Sweep → Val → Entry → Swept 𝓤 H A mem run .Ghost
+  abbrev to-swept : Carried → Val → Entry → Swept 𝓤 H A mem run .Ghost
   to-swept s v e = ((tt, tt, tt, (s, (e .id, (e .count, tt))), (v ∷ [], (LL.i8-laws .val (e .id) ∷ [], (LL.u32-laws .val (e .count) ∷ [], tt)))), tt)
 
-  goes-swept : (s : Sweep) (v : Val) (e : Entry) → Is R e (vals e) → ent 𝓤 (sem 𝓤 H A (Q .own s (v ∷ []))) (Swept 𝓤 H A mem run .pre (to-swept s v e))
+  goes-swept : (s : Carried) (v : Val) (e : Entry) → Is R e (vals e) → ent 𝓤 (sem 𝓤 H A (Q .own s (v ∷ []))) (Swept 𝓤 H A mem run .pre (to-swept s v e))
   goes-swept s v e g =
       let l = LL.owed T.the-type T′.the-laws e (vals e) g in
       qed W (‵ (Q .own s (v ∷ [])) ∷ []) ∵ nothing ! $ owned ! u32 (Is u32) (uint-makes 𝓤 H A W w32) (e .count) _ (l .1 .0) $ fjoin ! $
       owned ! i8 (Is i8) (sint-makes 𝓤 H A W w8) (e .id) _ (l .0) $ fjoin ! $ move ! (1 ∷ 0 ∷ []) $ fjoin ! $ nothing ! $ join ! $ frame ! $ done !
 
   -- what `finished` is handed
-  abbrev to-finished : Sweep → Val → Finished 𝓤 H A mem run .Ghost
+  abbrev to-finished : Carried → Val → Finished 𝓤 H A mem run .Ghost
   to-finished s v = ((tt, tt, tt, (s, tt), (v ∷ [], tt)), tt)
 
-  goes-finished : (s : Sweep) (v : Val) → ent 𝓤 (sem 𝓤 H A (Q .own s (v ∷ []))) (Finished 𝓤 H A mem run .pre (to-finished s v))
+  goes-finished : (s : Carried) (v : Val) → ent 𝓤 (sem 𝓤 H A (Q .own s (v ∷ []))) (Finished 𝓤 H A mem run .pre (to-finished s v))
   goes-finished s v = qed W (‵ (Q .own s (v ∷ [])) ∷ []) ∵ nothing ! $ move ! (1 ∷ 0 ∷ []) $ fjoin ! $ nothing ! $ join ! $ frame ! $ done !
 
   -- where a turn starts: i, what is carried, its machine value; what is left gives what the whole gives
   abbrev Turn : Type 0
-  Turn = (i : ℕ) × (s : Sweep) × (v : Val) × (i ≤ n) × (sweepOf s (drop i ys) ≡ sweepOf s₀ ys)
+  Turn = (i : ℕ) × (s : Carried) × (v : Val) × (i ≤ n) × (sweepOf s (drop i ys) ≡ sweepOf s₀ ys)
 
   abbrev Nearer : Turn → Turn → Type 0
   Nearer j i = n - j .0 < n - i .0
@@ -277,13 +277,13 @@ module _ {M : Type 1} (𝓤 : URA M) (H : Heap 𝓤) (A : Atoms 𝓤) (W : Given
         (and-then ! (load ! (from ! (stop !)) (look ! 3 refl))
         (and-then ! (load ! (from ! (fld ! {τ = tyInt w8} {d = 0} refl (stop !))) (look-in ! 5 {τ = tyInt w8} {b = l₆} {o = 0} (sub ! 0 {τ = tyInt w8} {d = 0} refl (whole !))))
         (and-then ! (load ! (from ! (fld ! {τ = tyInt w32} {d = 4} refl (stop !))) (look-in ! 5 {τ = tyInt w32} {b = l₆} {o = 4} (sub ! 1 {τ = tyInt w32} {d = 4} refl (whole !)))) (no-more !)))) (λ v.
-        use1 W (later (some (λ (r : Sweep). (‵ ftrue ⊛ ‵ (Q .own r (v ∷ []))) ⊛ raw (ensured 𝓤 H A swept.ended (swept.clauses 𝓤 H A mem run) tt (t .1, (entry i .id, (entry i .count, tt))) tt r)))) (id⊢ 𝓤 _) $ await ! tt $ pick ! (λ r.
+        use1 W (later (some (λ (r : Carried). (‵ ftrue ⊛ ‵ (Q .own r (v ∷ []))) ⊛ raw (ensured 𝓤 H A swept.ended (swept.clauses 𝓤 H A mem run) tt (t .1, (entry i .id, (entry i .count, tt))) tt r)))) (id⊢ 𝓤 _) $ await ! tt $ pick ! (λ r.
         split ! $ move ! (1 ∷ []) $ use1 W (raw (fact 𝓤 (r ≡ sweptOf (t .1) (entry i .id) (entry i .count)))) (swept-of 𝓤 H A mem run (t .1) (entry i .id) (entry i .count) r) $ heard ! (r ≡ sweptOf (t .1) (entry i .id) (entry i .count)) (λ eh. split ! $ Kit.drop ! $
         peeks ! Q (Is Q) (shows 𝓤 H A Q) r (v ∷ []) (λ is.
         land ! (from ! (stop !)) (store ! 3 refl (LL.lawful S.the-type S′.the-laws 𝓤 H A W .typed r _ is .0)) $
         assigns-last ! (bin ! (load ! (from ! (stop !)) (look ! 4 refl)) (lit ! tt) (record { fits = next })) (from ! (stop !)) (store ! 4 refl (tt, record { fits = next })) $
         forget ! 5 refl $ forget ! 6 refl $ forget ! 7 refl $ forget ! 8 refl $ forget ! 9 refl $ move ! (3 ∷ 0 ∷ 4 ∷ 5 ∷ 6 ∷ 7 ∷ 8 ∷ 9 ∷ 2 ∷ 1 ∷ []) $
-        again ! Nearer At t (i + 1, r, v, omega arith, ap (λ (s : Sweep). sweepOf s (drop (i + 1) ys)) eh ∙ sym (sweep-here (t .1) ys i l) ∙ t .4) (omega arith)))))))
+        again ! Nearer At t (i + 1, r, v, omega arith, ap (λ (s : Carried). sweepOf s (drop (i + 1) ys)) eh ∙ sym (sweep-here (t .1) ys i l) ∙ t .4) (omega arith)))))))
 
     ends : (t : Turn) → ltb (t .0) n ≡ false → Sq W (At t) (runs K Λ En code.Mir.turn-1 (anyQ (Turned t)))
     unfolding afterTurn
@@ -324,14 +324,14 @@ module _ {M : Type 1} (𝓤 : URA M) (H : Heap 𝓤) (A : Atoms 𝓤) (W : Given
       move ! (26 ∷ []) $ split ! $ move ! (4 ∷ 3 ∷ []) $ fjoin ! $ move ! (3 ∷ 0 ∷ []) $ fjoin ! $ move ! (2 ∷ 0 ∷ []) $ use2 W (raw (Begun 𝓤 H A mem run .pre to-begun)) goes-begun $
       -- [what `begun` is handed; tally's token; tally's; _10; …; _0; …]
       calls-at ! fm (Begun 𝓤 H A mem run) known₀ to-begun (and-then ! (load ! (from ! (stop !)) (look ! 17 refl)) (and-then ! (load ! (from ! (stop !)) (look ! 19 refl)) (no-more !))) (λ v.
-      use1 W (later (some (λ (r : Sweep). ((‵ (flft κ′ q′) ⊛ ‵ ftrue) ⊛ ‵ (Q .own r (v ∷ []))) ⊛ raw (ensured 𝓤 H A begun.ended (begun.clauses 𝓤 H A mem run) (κ′, tt) (a, (us, tt)) tt r)))) (id⊢ 𝓤 _) $ await ! tt $ pick ! (λ r.
+      use1 W (later (some (λ (r : Carried). ((‵ (flft κ′ q′) ⊛ ‵ ftrue) ⊛ ‵ (Q .own r (v ∷ []))) ⊛ raw (ensured 𝓤 H A begun.ended (begun.clauses 𝓤 H A mem run) (κ′, tt) (a, (us, tt)) tt r)))) (id⊢ 𝓤 _) $ await ! tt $ pick ! (λ r.
       split ! $ move ! (1 ∷ []) $ use1 W (raw (fact 𝓤 (r ≡ s₀))) (begun-of 𝓤 H A mem run κ′ a us r) $ heard ! (r ≡ s₀) (λ eh. split ! $ split ! $ move ! (2 ∷ []) $
       -- [s's; the bytes' token; true; tally's token; tally's; _10; …; _0; …]
       peeks ! Q (Is Q) (shows 𝓤 H A Q) r (v ∷ []) (λ is.
       land ! (from ! (stop !)) (init ! 17 refl (LL.lawful S.the-type S′.the-laws 𝓤 H A W .typed r _ is .0)) $
       assigns ! (of-opd ! (lit ! tt)) (from ! (stop !)) (init ! 15 refl (tt, record { fits = lit< tt })) $
       keep ! (17 ∷ 0 ∷ 15 ∷ 13 ∷ 11 ∷ 9 ∷ 7 ∷ 5 ∷ 3 ∷ 4 ∷ 23 ∷ 21 ∷ 25 ∷ 1 ∷ 26 ∷ 24 ∷ 22 ∷ 20 ∷ 18 ∷ 16 ∷ 14 ∷ 12 ∷ 10 ∷ 8 ∷ 6 ∷ 19 ∷ []) $
-      by ! (run-on 𝓣 fm known known′ gn l₀ l₁ l₂ l₃ l₄ l₅ l₆ l₇ l₈ l₉ l₁₀ (0, r, v, zero-le, ap (λ (s : Sweep). sweepOf s ys) eh)))))))))))))))))
+      by ! (run-on 𝓣 fm known known′ gn l₀ l₁ l₂ l₃ l₄ l₅ l₆ l₇ l₈ l₉ l₁₀ (0, r, v, zero-le, ap (λ (s : Carried). sweepOf s ys) eh)))))))))))))))))
 
 module _ {M : Type 1} (𝓤 : URA M) (H : Heap 𝓤) (A : Atoms 𝓤) (W : Given 𝓤 H A) (mem : Memory → SProp 𝓤) (run : Routine → Fun 𝓤) (𝓣 : Tables 𝓤 H) (known₀ : Triple 𝓤 (𝓣 .C #begun) (Begun 𝓤 H A mem run)) (known : Triple 𝓤 (𝓣 .C #swept) (Swept 𝓤 H A mem run)) (known′ : Triple 𝓤 (𝓣 .C #finished) (Finished 𝓤 H A mem run)) where
   compute-walks : Walks 𝓤 H A compute.ended stayed (WpFn 𝓤 H (𝓣 .C) (𝓣 .Λ) code.function) (compute.clauses 𝓤 H A mem run)
