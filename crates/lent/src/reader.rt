@@ -6,13 +6,13 @@ ghost use mathlib.Core.Path.{_≡_};
 ghost use Prim.Native.Nat.{_≤_};
 ghost use lib.ListN.{length};
 ghost use Rattle.extension.specs.declared.body.FieldAt.the-variants.{HasField};
-ghost use Rattle.extension.specs.Body.{fieldsOf};
-ghost use Rattle.lent.specs.Reader.{cursorOf, afterField, nextOf, valueAt, fieldsLeft, Reads};
+ghost use Rattle.lent.specs.Reader.{cursorOf, afterField, nextOf, nextRefusal, valueAt, Begins, Reads};
 
-// The position of the next field, and how many fields are left.
+// The position of the next field, and how many fields are left; or the number by which the body is refused.
 pub struct Cursor {
     pub at: usize,
     pub left: u32,
+    pub refusal: u8,
 }
 
 // Where a field stands, and the cursor after it.
@@ -52,7 +52,20 @@ pub fn moved<'a>(r: Reader<'a>, cursor: Cursor) -> Reader<'a>
     }
 }
 
-// The next field, and the cursor after it.
+impl NextField {
+    // The number by which the body or its next field is refused, 0 for none.
+    pub fn number(self) -> u8
+        ensures { λ r. ⌜ r ≡ nextRefusal self ⌝ }
+    {
+        match self {
+            NextField::Found(_) => 0,
+            NextField::Refused(n) => n,
+            NextField::Done => 0,
+        }
+    }
+}
+
+// The next field, and the cursor after it; or the number by which the body is refused.
 pub fn next<'a>(r: Reader<'a>) -> NextField
     ensures { λ f. ⌜ f ≡ nextOf (now (r .entry .body)) (r .entry .cursor) ⌝ }
 {
@@ -73,16 +86,17 @@ pub fn read_at(body: &[u8], cursor: Cursor) -> NextField
     next(moved(begin(body), cursor))
 }
 
-// Where the fields of a body begin, and how many there are; none where it is refused.
+// Where the fields of a body begin, and how many there are; or the number by which it is refused.
 pub fn cursor_of(body: &[u8]) -> Cursor
     ensures { λ r. ⌜ r ≡ cursorOf (now (body .entry)) ⌝ }
-    ensures fields { λ r. ⌜ fieldsLeft (now (body .entry)) r ≡ fieldsOf (now (body .entry)) ⌝ }
+    ensures begins { λ r. ⌜ Begins (now (body .entry)) r ⌝ }
 {
     let x = body::parse_extension_bytes(body);
     let fields = x.section;
     Cursor {
         at: fields.begin,
         left: fields.count,
+        refusal: x.refusal,
     }
 }
 
@@ -91,6 +105,9 @@ pub fn next_at(body: &[u8], cursor: Cursor) -> NextField
     ensures { λ r. ⌜ r ≡ nextOf (now (body .entry)) cursor ⌝ }
     ensures reads { λ r. ⌜ (length (now (body .entry)) ≤ 65536 → Reads (now (body .entry)) cursor r) ⌝ }
 {
+    if cursor.refusal != 0 {
+        return NextField::Refused(cursor.refusal);
+    }
     if cursor.left == 0 {
         return NextField::Done;
     }
@@ -106,7 +123,11 @@ fn found(place: FieldPlace, left: u32) -> NextField
     let at = place.end;
     NextField::Found(FieldRead {
         place,
-        cursor: Cursor { at, left },
+        cursor: Cursor {
+            at,
+            left,
+            refusal: 0,
+        },
     })
 }
 
@@ -114,6 +135,9 @@ fn found(place: FieldPlace, left: u32) -> NextField
 pub fn value_at(body: &[u8], cursor: Cursor) -> &[u8]
     ensures { λ v. ⌜ now v ≡ valueAt (now (body .entry)) cursor ⌝ }
 {
+    if cursor.refusal != 0 {
+        return &body[..0];
+    }
     if cursor.left == 0 {
         return &body[..0];
     }

@@ -151,7 +151,7 @@ unfolding fieldsFrom
 fields-refused body Unreadable k e = ap refusedSection e
 fields-refused body (Value m) k e = closed-refused (m .value) (m .next) _ k e
 
-body-refused : (s : List ℕ) (k : ℕ) → extensionOf s .refusal ≡ suc k → extensionOf s ≡ refusedSection (suc k)
+pub body-refused : (s : List ℕ) (k : ℕ) → extensionOf s .refusal ≡ suc k → extensionOf s ≡ refusedSection (suc k)
 unfolding extensionOf
 body-refused s k = go (ltb 65536 (length s)) (ltb (length s) 32)
   where
@@ -161,9 +161,13 @@ body-refused s k = go (ltb 65536 (length s)) (ltb (length s) 32)
     go false true e = ap refusedSection e
     go false false e = fields-refused s (vlqAt 32 s 32) k e
 
+pub refused-fields : (s : List ℕ) (k : ℕ) → extensionOf s .refusal ≡ suc k → fieldsOf s ≡ []
+unfolding fieldsOf
+refused-fields s k e = ap (λ (x : Parsed). sectionItems (readField s) (x .section)) (body-refused s k e) ∙ no-items (readField s)
+
 none-wrong : (s : List ℕ) (k : ℕ) → extensionOf s .refusal ≡ suc k → any wrongParameter (fieldsOf s) ≡ false
-unfolding fieldsOf any
-none-wrong s k e = ap (λ (x : Parsed). any wrongParameter (sectionItems (readField s) (x .section))) (body-refused s k e) ∙ ap (any wrongParameter) (no-items (readField s))
+unfolding any
+none-wrong s k e = ap (any wrongParameter) (refused-fields s k e)
 
 -- so 6 may be tested alone: a refused body has no parameter of another size
 pub check-body-by : (s : List ℕ) → checkBody s ≡ cond (any wrongParameter (fieldsOf s)) (refusedSection parameterSize) (extensionOf s)

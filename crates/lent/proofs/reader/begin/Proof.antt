@@ -40,10 +40,9 @@ use denote.Triple.Table.{entered, cited}
 use denote.Triple.Walked.{says, Stays, stay-none-slice, walkOf, goes-none-slice, Walks, ends-at, walked, walk-meets}
 use denote.Exit.{yes}
 use denote.Triple.Clauses.{ensured, lasts}
-use Rattle.extension.specs.Body.{fieldsOf}
 use Rattle.lent.specs.declared.reader.Cursor.{Cursor}
 use Rattle.lent.specs.declared.reader.Reader.{Reader}
-use Rattle.lent.specs.Reader.{cursorOf, fieldsLeft}
+use Rattle.lent.specs.Reader.{cursorOf, Begins}
 use Rattle.lent.proofs.reader.Cursor as Q
 use Rattle.lent.proofs.reader.Cursor.Laws as Q′
 use Rattle.lent.proofs.reader.Reader as T
@@ -109,8 +108,8 @@ module _ {M : Type 1} (𝓤 : URA M) (H : Heap 𝓤) (A : Atoms 𝓤) (W : Given
   -- of the callee's `ensured`, the first clause alone
   said : (c : Cursor) → ent 𝓤 (ensured 𝓤 H A cursor-of.ended (cursor-of.clauses 𝓤 H A mem run) (κ, tt) (s, tt) tt c) (fact 𝓤 (c ≡ cursorOf (now s)))
   said c =
-      exE 𝓤 _ (λ ws. via 𝓤 _ (snd∗ 𝓤 (sem 𝓤 H A (lasts cursor-of.ended (κ, tt) (s, tt) ws)) (sep 𝓤 (fact 𝓤 (c ≡ cursorOf (now s))) (fact 𝓤 (fieldsLeft (now s) c ≡ fieldsOf (now s)))))
-      (fst∗ 𝓤 (fact 𝓤 (c ≡ cursorOf (now s))) (fact 𝓤 (fieldsLeft (now s) c ≡ fieldsOf (now s)))))
+      exE 𝓤 _ (λ ws. via 𝓤 _ (snd∗ 𝓤 (sem 𝓤 H A (lasts cursor-of.ended (κ, tt) (s, tt) ws)) (sep 𝓤 (fact 𝓤 (c ≡ cursorOf (now s))) (fact 𝓤 (Begins (now s) c))))
+      (fst∗ 𝓤 (fact 𝓤 (c ≡ cursorOf (now s))) (fact 𝓤 (Begins (now s) c))))
 
   exits : (c : Cursor) → c ≡ cursorOf (now s) → Is Q.the-row c (Q′.lowered c ∷ []) → ent 𝓤 (⋆ 𝓤 H A ((‵ (flft κ q) ⊛ ‵ ftrue) ∷ ‵ Own ∷ [])) (Post (T′.lowered (made c)))
   exits c e is =
