@@ -6,9 +6,9 @@ use voting::table::Table;
 ghost use mathlib.Core.Path.{_≡_};
 ghost use mathlib.Core.Bool.{false, not};
 ghost use Prim.Native.Nat.{_+_, _/_, _≤_};
-ghost use lib.Dec.{eqb};
+ghost use lib.Dec.{eqb, ltb};
 ghost use lib.ListN.{length};
-ghost use Rattle.voting.specs.Common.{count};
+ghost use Rattle.counting.specs.Count.{count};
 ghost use Rattle.voting.specs.Header.{softForkVote};
 ghost use Rattle.archive.specs.Headers.{checkHeaders, checkForkVotes};
 
@@ -25,20 +25,14 @@ pub fn check_headers(votes: &[u8]) -> u8
     0
 }
 
-// Whether a byte is a vote. This loop and the two below go to their end in any case: that is quicker than a way out of them.
+// Whether a byte is a vote: not all are 0.
 fn any_vote(votes: &[u8]) -> bool
-    ensures { λ r. ⌜ (r ≡ false → count (λ x. not (eqb x 0)) (now (votes .entry)) ≡ 0) ⌝ }
+    ensures { λ r. ⌜ r ≡ ltb 0 (count (λ x. not (eqb 0 x)) (now (votes .entry))) ⌝ }
 {
-    let mut found = false;
-    let mut i: usize = 0;
-    while i < votes.len() {
-        found = found | (votes[i] != 0);
-        i += 1;
-    }
-    found
+    counting::times_in(votes, 0) < votes.len()
 }
 
-// Whether a header is illegal.
+// Whether a header is illegal. The loop goes to its end in any case: that is quicker than a way out of it.
 fn any_illegal(votes: &[u8]) -> bool
     ensures { λ r. ⌜ (r ≡ false → 0 ≡ checkHeaders (now (votes .entry))) ⌝ }
 {
@@ -89,15 +83,9 @@ pub(crate) fn check_fork_votes(config: VotingConfig, table: Table, height: u32, 
 
 // Whether a byte is the vote for the fork.
 fn any_fork_vote(votes: &[u8]) -> bool
-    ensures { λ r. ⌜ (r ≡ false → count (eqb softForkVote) (now (votes .entry)) ≡ 0) ⌝ }
+    ensures { λ r. ⌜ r ≡ ltb 0 (count (eqb softForkVote) (now (votes .entry))) ⌝ }
 {
-    let mut found = false;
-    let mut i: usize = 0;
-    while i < votes.len() {
-        found = found | (header::SOFT_FORK_VOTE == votes[i]);
-        i += 1;
-    }
-    found
+    0 < counting::times_in(votes, header::SOFT_FORK_VOTE)
 }
 
 fn first_barred(config: VotingConfig, table: Table, height: u32, votes: &[u8]) -> u8

@@ -15,7 +15,8 @@ use Rattle.voting.specs.declared.settings.VotingConfig.{VotingConfig}
 use Rattle.voting.specs.declared.table.Fork.{Fork}
 use Rattle.voting.specs.declared.fork.RoundAt.{RoundAt}
 use Rattle.voting.specs.declared.fork.Forked.{Forked}
-use Rattle.voting.specs.Common.{eqZ, count, first}
+use Rattle.counting.specs.Count.{count}
+use Rattle.voting.specs.Common.{eqZ, first}
 use Rattle.voting.specs.Settings.{votingLength, settings, forkLimit, softForkApproved, settingsLarge}
 use Rattle.voting.specs.Header.{votesIn, negation, ordinaryVote, fault, faultIn, checkVotes, checkHeaderVotes, votesFor, AllLegal}
 use Rattle.voting.specs.Tally.{headers, slotEntry, seeded, entry, entries, firstCount, firstVotes, countedFor}

@@ -12,14 +12,14 @@ use lib.ListN.{length, getD, drop, length-drop}
 use lib.Seq.{drop-cons}
 use Rattle.voting.specs.declared.settings.VotingConfig.{VotingConfig}
 use Rattle.voting.specs.declared.table.Table.{Table}
-use Rattle.voting.specs.Common.{count, first}
+use Rattle.counting.specs.Count.{count}
+use Rattle.voting.specs.Common.{first}
 use Rattle.voting.specs.Settings.{settingsLarge}
 use Rattle.voting.specs.Header.{softForkVote, votesIn, faultIn, checkVotes, checkHeaderVotes, votesFor}
 use Rattle.voting.specs.Tally.{headers}
 use Rattle.voting.specs.ForkCheck.{checkForkVote, forkRefusal, votesOpen}
 use Rattle.voting.proofs.Laws.Header.{first-pass, first-stop}
 use Rattle.voting.proofs.Laws.Fork.{open-allows}
-use Rattle.voting.proofs.Laws.Tally.{count-here, count-end}
 use Rattle.archive.specs.Headers.{headersRefusal, checkHeaders, forkRefusals}
 
 -- the three bytes of the header at an index
@@ -101,37 +101,27 @@ module _ (s : List ℕ) (i : ℕ) (found : Bool) where
   unfolding checkHeaders
   illegal-end h inv q = checks-end s i h ∙ inv q
 
-  -- a byte of a kind: one byte further
-  module _ (p : ℕ → Bool) where
-    pub found-on : i < length s → (found ≡ false → count p (drop i s) ≡ count p s) → found || p (getD s i 0) ≡ false → count p (drop (i + 1) s) ≡ count p s
-    found-on h inv q =
-        let k : _≡_ {A = ℕ} (cond (p (getD s i 0)) 1 0) 0 = ap (λ (x : Bool). cond x 1 0) (found-right found (p (getD s i 0)) q) in
-        omega (arith, k, count-here p s i h, inv (found-left found (p (getD s i 0)) q))
-
-    pub found-end : length s ≤ i → (found ≡ false → count p (drop i s) ≡ count p s) → found ≡ false → count p s ≡ 0
-    found-end h inv q = sym (inv q) ∙ count-end p s i h
-
 -- without a vote every header is legal
-no-vote : (x n : ℕ) → cond (not (eqb x 0)) 1 0 + n ≡ 0 → x ≡ 0
-no-vote x n z = not-found x (go (eqb x 0) z)
+no-vote : (x n : ℕ) → cond (not (eqb 0 x)) 1 0 + n ≡ 0 → x ≡ 0
+no-vote x n z = go (eqb 0 x) refl z
   where
-    go : (b : Bool) → cond (not b) 1 0 + n ≡ 0 → not b ≡ false
-    go true z = refl
-    go false z = absurd (omega (arith, z))
+    go : (b : Bool) → eqb 0 x ≡ b → cond (not b) 1 0 + n ≡ 0 → x ≡ 0
+    go true e z = sym (eqb-true 0 x e)
+    go false e z = absurd (omega (arith, z))
 
 none-legal : checkHeaderVotes (0 ∷ 0 ∷ 0 ∷ []) ≡ 0
 unfolding checkHeaderVotes checkVotes votesIn faultIn count
 none-legal = refl
 
-pub quiet-headers : (votes : List ℕ) → count (λ x. not (eqb x 0)) votes ≡ 0 → 0 ≡ headersRefusal (headers votes)
+pub quiet-headers : (votes : List ℕ) → count (λ x. not (eqb 0 x)) votes ≡ 0 → 0 ≡ headersRefusal (headers votes)
 unfolding headersRefusal headers count first
 quiet-headers [] z = refl
 quiet-headers (a ∷ []) z = refl
 quiet-headers (a ∷ b ∷ []) z = refl
 quiet-headers (a ∷ b ∷ c ∷ votes) z =
     let a₀ = no-vote a _ z in
-    let b₀ = no-vote b (count (λ x. not (eqb x 0)) (c ∷ votes)) (omega (arith, z)) in
-    let c₀ = no-vote c (count (λ x. not (eqb x 0)) votes) (omega (arith, z)) in
+    let b₀ = no-vote b (count (λ x. not (eqb 0 x)) (c ∷ votes)) (omega (arith, z)) in
+    let c₀ = no-vote c (count (λ x. not (eqb 0 x)) votes) (omega (arith, z)) in
     rw (a₀, b₀, c₀, none-legal) (quiet-headers votes (omega (arith, z)))
 
 -- without a vote for the fork every header is allowed

@@ -1,6 +1,7 @@
 -- `archive::headers::check_fork_votes` meets its contract. Assumes nothing.
 use mathlib.Core.Path.{sym, _∙_}
 use native.Mathlib.Omega.{arith}
+use Rattle.counting.proofs.Laws.Count.{count-none}
 use Rattle.archive.proofs.Laws.Headers.{quiet-forks, open-forks}
 use Rattle.archive.specs.Headers.{checkForkVotes}
 use borrow.Author.Needs.{needs}
@@ -40,7 +41,7 @@ returns-3 c = search needs
 
 returns-4 : tie.Need-returns-4
 unfolding checkForkVotes
-returns-4 c = quiet-forks _ _ (sym (c .before .before .before .settings-large .ensures) ∙ c .before .before .if2 .left) _ _ (c .before .any-fork-vote .ensures (c .if3 .left))
+returns-4 c = quiet-forks _ _ (sym (c .before .before .before .settings-large .ensures) ∙ c .before .before .if2 .left) _ _ (count-none _ _ (c .before .any-fork-vote .ensures) (c .if3 .left))
 
 pub check-fork-votes-spec : {M : Type 1} → statement M
 check-fork-votes-spec =

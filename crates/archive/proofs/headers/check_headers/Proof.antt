@@ -1,5 +1,6 @@
 -- `archive::headers::check_headers` meets its contract. Assumes nothing.
 use borrow.Author.Tests.{not-true}
+use Rattle.counting.proofs.Laws.Count.{count-none}
 use Rattle.archive.proofs.Laws.Headers.{quiet-headers}
 use Rattle.archive.specs.Headers.{checkHeaders}
 use borrow.Author.Needs.{needs}
@@ -11,7 +12,7 @@ any-vote-requires c κs = search needs
 
 returns : tie.Need-returns
 unfolding checkHeaders
-returns c = quiet-headers _ (c .before .any-vote .ensures (not-true _ (c .if1 .taken)))
+returns c = quiet-headers _ (count-none _ _ (c .before .any-vote .ensures) (not-true _ (c .if1 .taken)))
 
 any-illegal-requires : tie.Need-any-illegal-requires
 any-illegal-requires c κs = search needs

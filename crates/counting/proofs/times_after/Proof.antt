@@ -1,20 +1,20 @@
--- `voting::tally::times_in` meets its contract. Assumes nothing.
-use Rattle.voting.proofs.Laws.Tally.{count-here, count-end}
+-- `counting::times_after` meets its contract. Assumes nothing.
+use Rattle.counting.proofs.Laws.Count.{count-here, count-end}
 use mathlib.Core.Path.{_≡_}
 use Prim.Native.Nat.{_+_, _-_, _≤_}
 use native.Mathlib.Omega.{arith}
 use lib.Dec.{eqb}
 use lib.ListN.{length, drop}
-use Rattle.voting.specs.Common.{count}
+use Rattle.counting.specs.Count.{count}
 use borrow.Author.Needs.{needs}
-use Rattle.voting.proofs.tally.times_in.Statement.{statement}
-use Rattle.voting.proofs.tally.times_in.Tie as tie
+use Rattle.counting.proofs.times_after.Statement.{statement}
+use Rattle.counting.proofs.times_after.Tie as tie
 
 abbrev Inv-loop : tie.InvT-loop
-Inv-loop votes b n₀ i₀ n i = (n ≤ i) × (i ≤ length votes) × (n + count (eqb b) (drop i votes) ≡ count (eqb b) votes)
+Inv-loop bytes at b n₀ i₀ n i = (n + at ≤ i) × (i ≤ length bytes) × (n + count (eqb b) (drop i bytes) ≡ count (eqb b) (drop at bytes))
 
 abbrev μ-loop : tie.MeasureT-loop
-μ-loop votes b n₀ i₀ n i = length votes - i
+μ-loop bytes at b n₀ i₀ n i = length bytes - i
 
 loop-holds : tie.Need-loop-holds Inv-loop μ-loop
 loop-holds c = search needs
@@ -38,16 +38,16 @@ loop-again : tie.Need-loop-again Inv-loop μ-loop
 loop-again c =
     let a = c .before .before .before .before .before .args in
     let l = c .before .before .before .loop in
-    let e = count-here (eqb (a .b)) (a .votes .now) (l .i) (c .before .before .loop-test .taken) in
+    let e = count-here (eqb (a .b)) (a .bytes .now) (l .i) (c .before .before .loop-test .taken) in
     (omega arith, omega arith, omega (arith, e, c .one .ensures .0, l .inv .2))
 
 returns : tie.Need-returns Inv-loop μ-loop
 returns c =
     let a = c .before .before .before .args in
-    omega (arith, count-end (eqb (a .b)) (a .votes .now) (c .before .loop .i) (c .loop-test .left), c .before .loop .inv .2)
+    omega (arith, count-end (eqb (a .b)) (a .bytes .now) (c .before .loop .i) (c .loop-test .left), c .before .loop .inv .2)
 
-pub times-in-spec : {M : Type 1} → statement M
-times-in-spec =
+pub times-after-spec : {M : Type 1} → statement M
+times-after-spec =
     tie.close
     (tie.spec
     Inv-loop
