@@ -9,7 +9,7 @@ times-in-requires : tie.Need-times-in-requires
 times-in-requires c κs = search needs
 
 returns : tie.Need-returns
-returns c = rw (c .times-in .ensures) (count-less (eqb 0) (c .before .args .votes .now))
+returns c = rw (c .times-in .ensures) (count-less (eqb 0) (c .before .before .args .votes .now))
 
 pub any-vote-spec : {M : Type 1} → statement M
 any-vote-spec = tie.close (tie.spec times-in-requires returns)
