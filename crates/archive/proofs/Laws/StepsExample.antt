@@ -22,7 +22,8 @@ use Rattle.extension.specs.Parameters.{noParameters, entryOf, numberIn, taken, 
 use Rattle.extension.specs.Update.{updateOf}
 use Rattle.extension.specs.Boundary.{activates, withUpdate, computedOf}
 use Rattle.archive.specs.Record.{taggedBytes, recordBytes, sizedAt, taggedAt, withVotes, withBody, withHeight, recordAt}
-use Rattle.archive.specs.Headers.{headersRefusal, checkHeaders, forkRefusals, checkForkVotes}
+use Rattle.headers.specs.Headers.{headersRefusal, checkHeaders}
+use Rattle.archive.specs.ForkVotes.{forkRefusals, checkForkVotes}
 use Rattle.archive.specs.Replay.{gate as gateReplay, afterMatch, afterBoundary, heightRefusal, onParts, onRecord, replayOf}
 use Rattle.archive.specs.Rounds.{answerBy, answer, recordVotes, stateAfter}
 use Rattle.archive.specs.Steps.{epochBefore}

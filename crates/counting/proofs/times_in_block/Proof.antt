@@ -4,7 +4,7 @@ use mathlib.Core.Path.{_≡_}
 use Prim.Native.Nat.{_+_, _-_, _≤_}
 use native.Mathlib.Omega.{arith}
 use lib.Dec.{eqb}
-use lib.ListN.{length, drop}
+use lib.ListN.{drop}
 use Rattle.counting.specs.Count.{count}
 use borrow.Author.Needs.{needs}
 use Rattle.counting.proofs.times_in_block.Statement.{statement}

@@ -2,7 +2,6 @@
 use Rattle.headers.proofs.Laws.Lanes.{all-legal, three-parts}
 use mathlib.Core.Path.{refl}
 use Prim.Native.Nat.{_/_}
-use native.Mathlib.Omega.{arith}
 use lib.ListN.{length}
 use borrow.Author.Needs.{needs}
 use Rattle.headers.proofs.lanes.any_illegal.Statement.{statement}

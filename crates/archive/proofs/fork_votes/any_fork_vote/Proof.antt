@@ -1,7 +1,7 @@
--- `archive::headers::any_fork_vote` meets its contract. Assumes nothing.
+-- `archive::fork_votes::any_fork_vote` meets its contract. Assumes nothing.
 use borrow.Author.Needs.{needs}
-use Rattle.archive.proofs.headers.any_fork_vote.Statement.{statement}
-use Rattle.archive.proofs.headers.any_fork_vote.Tie as tie
+use Rattle.archive.proofs.fork_votes.any_fork_vote.Statement.{statement}
+use Rattle.archive.proofs.fork_votes.any_fork_vote.Tie as tie
 
 times-in-requires : tie.Need-times-in-requires
 times-in-requires c κs = search needs

@@ -1,15 +1,15 @@
--- `archive::headers::first_barred` meets its contract. Assumes nothing.
+-- `archive::fork_votes::first_barred` meets its contract. Assumes nothing.
 use native.Mathlib.Omega.{arith}
-use Rattle.archive.proofs.Laws.Headers.{forks-stop, forks-pass, forks-end}
+use Rattle.archive.proofs.Laws.ForkVotes.{forks-stop, forks-pass, forks-end}
 use Rattle.voting.specs.ForkCheck.{forkRefusal}
-use Rattle.archive.specs.Headers.{forkRefusals, checkForkVotes}
+use Rattle.archive.specs.ForkVotes.{forkRefusals, checkForkVotes}
 use Rattle.voting.specs.Tally.{headers}
 use lib.ListN.{drop}
 use Prim.Native.Nat.{_+_, _-_, _*_}
 use mathlib.Core.Path.{_≡_, ap, _∙_}
 use borrow.Author.Needs.{needs}
-use Rattle.archive.proofs.headers.first_barred.Statement.{statement}
-use Rattle.archive.proofs.headers.first_barred.Tie as tie
+use Rattle.archive.proofs.fork_votes.first_barred.Statement.{statement}
+use Rattle.archive.proofs.fork_votes.first_barred.Tie as tie
 
 abbrev Inv-loop : tie.InvT-loop
 Inv-loop config table height votes n h₀ i₀ h i = (h ≡ height + i) × (forkRefusals config table h (headers (drop (3 * i) votes)) ≡ forkRefusals config table height (headers votes))

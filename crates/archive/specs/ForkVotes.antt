@@ -1,21 +1,12 @@
--- The headers of an epoch, one after another. docs/RULES.md, "Replay".
+-- The fork check of an epoch's headers, one after another. docs/RULES.md, "Replay".
 -- Assumes nothing.
 use Prim.Native.Nat.{ℕ, _+_}
 use mathlib.Core.List.{List, [], _∷_}
 use Rattle.voting.specs.declared.settings.VotingConfig.{VotingConfig}
 use Rattle.voting.specs.declared.table.Table.{Table}
 use Rattle.voting.specs.Common.{first}
-use Rattle.voting.specs.Header.{checkHeaderVotes}
 use Rattle.voting.specs.Tally.{headers}
 use Rattle.voting.specs.ForkCheck.{checkForkVote, forkRefusal}
-
--- the header check of each in order, the first refusal
-unfoldable pub headersRefusal : List (List ℕ) → ℕ
-headersRefusal [] = 0
-headersRefusal (h ∷ hs) = first (checkHeaderVotes h) (headersRefusal hs)
-
-unfoldable pub checkHeaders : List ℕ → ℕ
-checkHeaders votes = headersRefusal (headers votes)
 
 -- the fork check of each in order, at rising heights, the first refusal; barred is 12
 unfoldable pub forkRefusals : VotingConfig → Table → ℕ → List (List ℕ) → ℕ

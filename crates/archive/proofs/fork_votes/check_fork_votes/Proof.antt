@@ -1,12 +1,12 @@
--- `archive::headers::check_fork_votes` meets its contract. Assumes nothing.
+-- `archive::fork_votes::check_fork_votes` meets its contract. Assumes nothing.
 use mathlib.Core.Path.{sym, _∙_}
 use native.Mathlib.Omega.{arith}
 use Rattle.counting.proofs.Laws.Count.{count-none}
-use Rattle.archive.proofs.Laws.Headers.{quiet-forks, open-forks}
-use Rattle.archive.specs.Headers.{checkForkVotes}
+use Rattle.archive.proofs.Laws.ForkVotes.{quiet-forks, open-forks}
+use Rattle.archive.specs.ForkVotes.{checkForkVotes}
 use borrow.Author.Needs.{needs}
-use Rattle.archive.proofs.headers.check_fork_votes.Statement.{statement}
-use Rattle.archive.proofs.headers.check_fork_votes.Tie as tie
+use Rattle.archive.proofs.fork_votes.check_fork_votes.Statement.{statement}
+use Rattle.archive.proofs.fork_votes.check_fork_votes.Tie as tie
 
 cast-votes-open : tie.Need-cast-votes-open
 cast-votes-open c = search needs
