@@ -1,7 +1,7 @@
 // Whether a header of an epoch is illegal. Sixteen headers are tested at a time, each in a lane of its own: the compiler then tests them
 // by the machine's instructions on sixteen bytes. A header has three bytes, so lane l holds the header that begins at byte l, l + 16 or
 // l + 32 of a block of 48, whichever 3 divides, and three constant tables of masks choose it: loads of sixteen bytes side by side, and
-// nothing is gathered or branched on. No loop has a way out: that is quicker. The lanes read two bytes behind their block, so the last
+// nothing is gathered or branched on. No loop has an early exit: that is quicker. The lanes read two bytes behind their block, so the last
 // header is tested alone, and the sixteen before it make a block that may lie over the one before.
 ghost use mathlib.Core.Path.{_≡_};
 ghost use mathlib.Core.Bool.{false};

@@ -36,9 +36,10 @@ loop-less c = search needs
 
 loop-again : tie.Need-loop-again Inv-loop μ-loop
 loop-again c =
-    let a = c .before .before .before .before .before .args in
-    let l = c .before .before .before .loop in
-    let e = count-here (eqb (a .b)) (a .bytes .now) (l .i) (c .before .before .loop-test .taken) in
+    let turn = c .before .before in
+    let a = turn .before .before .before .args in
+    let l = turn .before .loop in
+    let e = count-here (eqb (a .b)) (a .bytes .now) (l .i) (turn .loop-test .taken) in
     (omega arith, omega arith, omega (arith, e, c .one .ensures .0, l .inv .2))
 
 returns : tie.Need-returns Inv-loop μ-loop

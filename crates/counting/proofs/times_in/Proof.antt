@@ -39,10 +39,12 @@ loop-less c = search needs
 
 loop-again : tie.Need-loop-again Inv-loop μ-loop
 loop-again c =
-    let a = c .before .before .before .before .before .args in
-    let l = c .before .before .before .loop in
+    let counted = c .before in
+    let turn = counted .before in
+    let a = turn .before .before .before .args in
+    let l = turn .before .loop in
     let e = count-moved (eqb (a .b)) (a .bytes .now) (192 * (l .k) + 192) (192 * (l .k + 1)) (omega arith) in
-    (omega arith, omega arith, omega (arith, e, c .wide .ensures, c .before .times-in-block .ensures .1, l .inv .2))
+    (omega arith, omega arith, omega (arith, e, c .wide .ensures, counted .times-in-block .ensures .1, l .inv .2))
 
 mul-times-after : tie.Need-mul-times-after Inv-loop μ-loop
 mul-times-after c = search needs
@@ -58,10 +60,12 @@ add-result c = omega (arith, c .wide2 .ensures, c .before .times-after .ok)
 
 returns : tie.Need-returns Inv-loop μ-loop
 returns c =
-    let a = c .before .before .before .before .before .args in
-    let l = c .before .before .before .loop in
+    let counted = c .before in
+    let ended = counted .before in
+    let a = ended .before .before .before .args in
+    let l = ended .before .loop in
     let e = count-moved (eqb (a .b)) (a .bytes .now) (192 * (l .k)) (192 * (length (a .bytes .now) / 192)) (omega arith) in
-    omega (arith, e, c .wide2 .ensures, c .before .times-after .ensures, l .inv .2)
+    omega (arith, e, c .wide2 .ensures, counted .times-after .ensures, l .inv .2)
 
 pub times-in-spec : {M : Type 1} → statement M
 times-in-spec =

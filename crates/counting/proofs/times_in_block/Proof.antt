@@ -41,8 +41,9 @@ loop-less c = search needs
 
 loop-again : tie.Need-loop-again Inv-loop μ-loop
 loop-again c =
-    let a = c .before .before .before .before .before .args in
-    let l = c .before .before .before .loop in
+    let turn = c .before .before in
+    let a = turn .before .before .before .args in
+    let l = turn .before .loop in
     let e = count-on (eqb (a .b)) (a .bytes .now) (a .at) (l .j) (omega arith) in
     (omega arith, omega arith, omega (arith, e, c .one .ensures .0, l .inv .2))
 

@@ -24,6 +24,7 @@ legal-here : (s : List ℕ) (i j : ℕ) → i ≡ j → Legal s i → Legal s j
 legal-here s i j e = subst (Legal s) e
 
 -- ---- lanes
+-- a legal header by other names
 pub legal-at : {a b c x y z : ℕ} → a ≡ x → b ≡ y → c ≡ z → checkHeaderVotes (a ∷ b ∷ c ∷ []) ≡ 0 → checkHeaderVotes (x ∷ y ∷ z ∷ []) ≡ 0
 legal-at p q r h = rw (p, q, r) at h
 
@@ -123,7 +124,7 @@ block-on s k found r inv f e i h =
     (λ q. inv (w .0) i (ltb-true i (16 * k) q))
     (λ q. in-block s (16 * k) (subst (LegalBlock s) (omega arith) (f (w .1))) i (ltb-false i (16 * k) q) (omega arith))
 
--- the first headers legal, all of them are
+-- where the first headers are legal, those that are left give what all give
 first-legal : (s : List ℕ) (n : ℕ) → n ≤ length s / 3 → LegalBelow s n → headersRefusal (headers (drop (3 * n) s)) ≡ headersRefusal (headers s)
 first-legal s zero h f = refl
 first-legal s (suc n) h f =

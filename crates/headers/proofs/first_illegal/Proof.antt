@@ -41,7 +41,10 @@ check-header-votes-requires c κs = search needs
 
 returns : tie.Need-returns Inv-loop μ-loop
 unfolding checkHeaders
-returns c = checks-stop _ _ (c .before .before .before .before .before .loop-test .taken) _ (c .before .check-header-votes .ensures) (c .if1 .taken) ∙ c .before .before .before .before .before .before .loop .inv
+returns c =
+    let checked = c .before in
+    let turn = checked .before .before .before .before in
+    checks-stop _ _ (turn .loop-test .taken) _ (checked .check-header-votes .ensures) (c .if1 .taken) ∙ turn .before .loop .inv
 
 add-i : tie.Need-add-i Inv-loop μ-loop
 add-i c = search needs
@@ -50,7 +53,10 @@ loop-less : tie.Need-loop-less Inv-loop μ-loop
 loop-less c = search needs
 
 loop-again : tie.Need-loop-again Inv-loop μ-loop
-loop-again c = checks-pass _ _ (c .before .before .before .before .before .loop-test .taken) _ (c .before .check-header-votes .ensures) (c .if1 .left) ∙ c .before .before .before .before .before .before .loop .inv
+loop-again c =
+    let checked = c .before in
+    let turn = checked .before .before .before .before in
+    checks-pass _ _ (turn .loop-test .taken) _ (checked .check-header-votes .ensures) (c .if1 .left) ∙ turn .before .loop .inv
 
 returns-2 : tie.Need-returns-2 Inv-loop μ-loop
 unfolding checkHeaders

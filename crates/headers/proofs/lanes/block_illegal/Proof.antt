@@ -41,9 +41,10 @@ loop-less c = search needs
 
 loop-again : tie.Need-loop-again Inv-loop μ-loop
 loop-again c =
-    let a = c .before .before .before .before .args in
-    let l = c .before .before .loop in
-    lane-on (a .votes .now) (a .at) (l .l) (c .before .loop-test .taken) _ _ (l .inv) (c .lane-illegal .ensures)
+    let turn = c .before in
+    let a = turn .before .before .before .args in
+    let l = turn .before .loop in
+    lane-on (a .votes .now) (a .at) (l .l) (turn .loop-test .taken) _ _ (l .inv) (c .lane-illegal .ensures)
 
 returns : tie.Need-returns Inv-loop μ-loop
 returns c = λ e l h. c .before .loop .inv e l (omega (arith, h))

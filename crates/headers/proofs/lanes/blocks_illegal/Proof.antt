@@ -32,8 +32,8 @@ loop-less c = search needs
 
 loop-again : tie.Need-loop-again Inv-loop μ-loop
 loop-again c =
-    let l = c .before .before .loop in
-    block-on (c .before .before .before .before .args .votes .now) (l .k) _ _ (l .inv) (c .block-illegal .ensures)
+    let at = c .before .before in
+    block-on (at .before .before .args .votes .now) (at .loop .k) _ _ (at .loop .inv) (c .block-illegal .ensures)
 
 returns : tie.Need-returns Inv-loop μ-loop
 returns c = λ e i h. c .before .loop .inv e i (omega (arith, h))

@@ -21,10 +21,13 @@ joined-requires-2 c κs = search needs
 
 returns : tie.Need-returns
 returns c =
-    let k = c .before .before .before .before .kept .ensures in
-    let l = c .before .before .before .kept2 .ensures in
-    let j = c .before .before .joined .ensures in
-    let m = c .before .kept3 .ensures in
+    let third = c .before in
+    let two = third .before in
+    let second = two .before in
+    let k = second .before .kept .ensures in
+    let l = second .kept2 .ensures in
+    let j = two .joined .ensures in
+    let m = third .kept3 .ensures in
     let i = c .joined2 .ensures in
     (λ p q r. i .1 (m .1 r) ∙ j .1 (l .1 q) ∙ k .0 p, λ p q r. i .1 (m .1 r) ∙ j .0 (k .1 p) ∙ l .0 q, λ p q r. i .0 (j .1 (l .1 q) ∙ k .1 p) ∙ m .0 r)
 

@@ -29,8 +29,8 @@ loop-less c = search needs
 
 loop-again : tie.Need-loop-again Inv-loop μ-loop
 loop-again c =
-    let l = c .before .before .loop in
-    header-on (c .before .before .before .before .args .votes .now) (l .i) _ _ (l .inv) (c .header-illegal .ensures)
+    let at = c .before .before in
+    header-on (at .before .before .args .votes .now) (at .loop .i) _ _ (at .loop .inv) (c .header-illegal .ensures)
 
 returns : tie.Need-returns Inv-loop μ-loop
 returns c = λ e i h. c .before .loop .inv e i (omega (arith, h))
