@@ -1,4 +1,4 @@
-pub mod Headers
+pub mod ForkVotes
 pub mod Record
 pub mod RecordTrip
 pub mod RecordBytes

@@ -1,5 +1,5 @@
 pub mod Record
-pub mod Headers
+pub mod ForkVotes
 pub mod Replay
 pub mod Rounds
 pub mod Steps

@@ -29,7 +29,8 @@ use Rattle.archive.specs.declared.replay.Verdict.the-variants.{Accepted,
 use Rattle.archive.specs.declared.replay.Replayed.{Replayed}
 use Rattle.archive.specs.declared.replay.Opened.{Opened}
 use Rattle.archive.specs.Record.{recordAt}
-use Rattle.archive.specs.Headers.{checkHeaders, checkForkVotes}
+use Rattle.headers.specs.Headers.{checkHeaders}
+use Rattle.archive.specs.ForkVotes.{checkForkVotes}
 
 -- refused: the state as it was
 abbrev pub refuses : Replay → ℕ → Replayed

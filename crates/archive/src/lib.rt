@@ -1,4 +1,4 @@
 // The archive's records of epochs: how one is read and replayed.
-pub mod headers;
+mod fork_votes;
 pub mod record;
 pub mod replay;

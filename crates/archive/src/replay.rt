@@ -1,5 +1,5 @@
 // The replay of a record. docs/RULES.md, "Replay".
-use crate::headers;
+use crate::fork_votes;
 use crate::record;
 use crate::record::RecordAt;
 use codec::refusal;
@@ -21,7 +21,7 @@ ghost use lib.ListN.{length, take, drop};
 ghost use Rattle.voting.specs.Settings.{votingLength, mainnet};
 ghost use Rattle.voting.specs.Tally.{noTally};
 ghost use Rattle.rounds.specs.Epochs.{boundaryVotes};
-ghost use Rattle.archive.specs.Headers.{checkForkVotes};
+ghost use Rattle.archive.specs.ForkVotes.{checkForkVotes};
 ghost use Rattle.archive.specs.Replay.{refuses, onward, afterMatch, afterBoundary, heightRefusal, earlyRefusal, onParts, replayOf, Exhausted, LeastOfRecord, verdictNumber, verdictId, mayOpen, openOf};
 ghost use Rattle.archive.specs.Rounds.{RoundsKept};
 ghost use Rattle.archive.specs.Steps.{StepsKept};
@@ -233,7 +233,7 @@ fn other_refusal(config: VotingConfig, table: Table, height: u32, votes: &[u8]) 
     if votes.len() < 3 {
         return 0;
     }
-    headers::check_fork_votes(config, table, height, &votes[3..])
+    fork_votes::check_fork_votes(config, table, height, &votes[3..])
 }
 
 // After the boundary: the match.

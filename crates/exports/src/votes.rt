@@ -1,6 +1,5 @@
 // Votes of headers.
 use crate::answer;
-use archive::headers;
 use legal::next;
 use legal::next::NextVotes;
 use voting::fork;
@@ -13,7 +12,7 @@ ghost use Rattle.codec.specs.Output.{writes};
 ghost use Rattle.voting.specs.Header.{checkHeaderVotes};
 ghost use Rattle.voting.specs.Tally.{tallyVotesSeeded};
 ghost use Rattle.voting.specs.ForkCheck.{checkForkVote, forkRefusal};
-ghost use Rattle.archive.specs.Headers.{checkHeaders};
+ghost use Rattle.headers.specs.Headers.{checkHeaders};
 ghost use Rattle.wire.specs.Numbers.{votesAt};
 ghost use Rattle.wire.specs.Values.{tableAt, settingsAt};
 ghost use Rattle.exports.specs.Reply.{reply, numbered, sized};

@@ -4,7 +4,8 @@ use mathlib.Core.Path.{refl}
 use Rattle.codec.specs.Signed.{modulo, bitsOf, signedOf, wrapped}
 use Rattle.codec.specs.Vlq.{continued, byte, numberOf, low64, below, vlqOf, placed, vlqAt}
 use Rattle.codec.specs.Rule.{ruleOf}
-use Rattle.voting.specs.Common.{eqZ, count, first}
+use Rattle.counting.specs.Count.{count}
+use Rattle.voting.specs.Common.{eqZ, first}
 use Rattle.voting.specs.Settings.{mainnet, forkLimit, softForkApproved, changeApproved}
 use Rattle.voting.specs.Header.{votesIn, negation, ordinaryVote, fault, faultIn, checkVotes, checkHeaderVotes}
 use Rattle.voting.specs.ForkPart.{forkTotal}

@@ -4,7 +4,8 @@ use mathlib.Core.Path.{_≡_, refl}
 use mathlib.Core.List.{[], _∷_}
 use Rattle.codec.specs.Decimal.{digits}
 use Rattle.codec.specs.Signed.{modulo, bitsOf, signedOf, wrapped}
-use Rattle.voting.specs.Common.{eqZ, count, first}
+use Rattle.counting.specs.Count.{count}
+use Rattle.voting.specs.Common.{eqZ, first}
 use Rattle.voting.specs.Header.{votesIn, negation, ordinaryVote, fault, faultIn, checkVotes, checkHeaderVotes}
 use Rattle.legal.specs.declared.next.NextVotes.the-variants.{Votes, Nothing}
 use Rattle.legal.specs.Legal.{bytesOf, legal, numbers, kept, firstOf, nextLegalVotes}

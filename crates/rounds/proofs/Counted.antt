@@ -11,7 +11,8 @@ use Rattle.voting.specs.Header.{softForkVote, votesFor, AllLegal}
 use Rattle.voting.specs.Tally.{headers, seeded, entries, firstCount, firstVotes, countedFor}
 use Rattle.voting.proofs.Laws.Tests.{by-test}
 use Rattle.voting.proofs.Laws.Header.{alike-small}
-use Rattle.voting.proofs.Laws.Tally.{tally-counts, whole-threes, headers-length, count-most}
+use Rattle.counting.proofs.Laws.Count.{count-most}
+use Rattle.voting.proofs.Laws.Tally.{tally-counts, whole-threes, headers-length}
 use Rattle.rounds.specs.Epochs.{counted}
 
 -- 120 is its own id

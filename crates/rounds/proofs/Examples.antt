@@ -14,7 +14,8 @@ use Rattle.codec.specs.Signed.{modulo, bitsOf, signedOf, wrapped}
 use Rattle.voting.specs.declared.settings.VotingConfig.{VotingConfig}
 use Rattle.voting.specs.declared.table.Fork.{Fork}
 use Rattle.voting.specs.declared.fork.ForkPart.{ForkPart}
-use Rattle.voting.specs.Common.{eqZ, count, first, gate}
+use Rattle.counting.specs.Count.{count}
+use Rattle.voting.specs.Common.{eqZ, first, gate}
 use Rattle.voting.specs.Settings.{votingLength, settings, forkLimit, softForkApproved, settingsLarge}
 use Rattle.voting.specs.Header.{votesIn, negation, ordinaryVote, fault, faultIn, checkVotes, checkHeaderVotes, votesFor, AllLegal}
 use Rattle.voting.specs.Tally.{headers, slotEntry, seeded, entry, entries, firstCount, firstVotes, countedFor}

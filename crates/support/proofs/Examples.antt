@@ -4,7 +4,8 @@ use mathlib.Core.Path.{_≡_, refl}
 use mathlib.Core.List.{List, [], _∷_}
 use Prim.Native.Nat.{ℕ}
 use Rattle.codec.specs.Signed.{modulo, bitsOf, signedOf, wrapped}
-use Rattle.voting.specs.Common.{eqZ, count, first}
+use Rattle.counting.specs.Count.{count}
+use Rattle.voting.specs.Common.{eqZ, first}
 use Rattle.voting.specs.Header.{votesIn, negation, ordinaryVote, fault, faultIn, checkVotes, checkHeaderVotes, votesFor}
 use Rattle.support.specs.Support.{accepted, support}
 use Rattle.support.specs.Window.{roomRefusal, newRefusal}

@@ -6,7 +6,8 @@ use mathlib.Core.Bool.{cond}
 use mathlib.Core.List.{List, [], _∷_}
 use lib.Dec.{eqb}
 use lib.ListN.{length, drop}
-use Rattle.voting.specs.Common.{count, Bytes}
+use Rattle.counting.specs.Count.{count}
+use Rattle.voting.specs.Common.{Bytes}
 use Rattle.voting.specs.Header.{checkHeaderVotes, votesFor}
 
 -- a header: three vote bytes

@@ -2,6 +2,7 @@ pub mod Tests
 pub mod Integers
 pub mod Each
 pub mod Header
+pub mod Clash
 pub mod Tally
 pub mod Settings
 pub mod Table

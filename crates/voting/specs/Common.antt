@@ -1,7 +1,7 @@
--- What several definitions of this crate use: tests of integers, counting, refusals in order, and bytes.
+-- What several definitions of this crate use: tests of integers, refusals in order, and bytes.
 -- Assumes nothing.
-use Prim.Native.Nat.{ℕ, zero, suc, _+_, _<_}
-use mathlib.Core.Bool.{Bool, false, cond}
+use Prim.Native.Nat.{ℕ, zero, suc, _<_}
+use mathlib.Core.Bool.{Bool, false}
 use mathlib.Core.List.{List, [], _∷_}
 use lib.Dec.{eqb}
 use lib.IntN.{ℤ, pos, negsuc}
@@ -12,11 +12,6 @@ eqZ (pos a) (pos b) = eqb a b
 eqZ (pos a) (negsuc b) = false
 eqZ (negsuc a) (pos b) = false
 eqZ (negsuc a) (negsuc b) = eqb a b
-
--- how many elements of a list pass a test
-unfoldable pub count : {A : Type 0} → (A → Bool) → List A → ℕ
-count p [] = 0
-count p (x ∷ xs) = cond (p x) 1 0 + count p xs
 
 -- of two refusal numbers the first that is not 0; 0 is no refusal
 unfoldable pub first : ℕ → ℕ → ℕ

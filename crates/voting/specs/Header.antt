@@ -8,7 +8,8 @@ use lib.Dec.{ltb, eqb}
 use lib.IntN.{ℤ, pos, negℤ}
 use Rattle.codec.specs.Refusal.{tooManyVotes, repeatedVote, contradictoryVote}
 use Rattle.codec.specs.Signed.{signedOf, wrapped}
-use Rattle.voting.specs.Common.{eqZ, count, first, Each}
+use Rattle.counting.specs.Count.{count}
+use Rattle.voting.specs.Common.{eqZ, first, Each}
 
 -- the votes among bytes: those that are not 0, as signed ids
 unfoldable pub votesIn : List ℕ → List ℤ

@@ -11,7 +11,8 @@ use Rattle.codec.specs.Signed.{signedOf}
 use Rattle.voting.specs.declared.tally.Entry.{Entry}
 use Rattle.voting.specs.declared.tally.Tally.{Tally}
 use Rattle.voting.specs.declared.tally.Tallied.{Tallied}
-use Rattle.voting.specs.Common.{eqZ, count}
+use Rattle.counting.specs.Count.{count}
+use Rattle.voting.specs.Common.{eqZ}
 use Rattle.voting.specs.Header.{votesFor}
 
 -- the vote bytes of the headers in a string of bytes, three a header; one or two bytes left over are none

@@ -1,10 +1,11 @@
 // Header votes: three bytes, each a signed id, 0 for no vote. docs/RULES.md, "Header bytes".
 ghost use mathlib.Core.Path.{_≡_};
-ghost use mathlib.Core.Bool.{cond, not, _&&_};
+ghost use mathlib.Core.Bool.{cond, not, _&&_, _||_};
 ghost use mathlib.Core.List.{[], _∷_};
-ghost use Prim.Native.Nat.{_≤_};
+ghost use Prim.Native.Nat.{_+_, _%_, _≤_};
 ghost use lib.Dec.{eqb};
-ghost use Rattle.voting.specs.Common.{count, first};
+ghost use Rattle.counting.specs.Count.{count};
+ghost use Rattle.voting.specs.Common.{first};
 ghost use Rattle.voting.specs.Header.{softForkVote, votesIn, negation, fault, checkHeaderVotes, votesFor};
 ghost use Rattle.codec.specs.Signed.{bitsOf, signedOf};
 use codec::refusal;
@@ -14,6 +15,9 @@ use codec::signed;
 pub const SOFT_FORK_VOTE: u8 = 120;
 
 pub const SOFT_FORK_ID: i8 = SOFT_FORK_VOTE as i8;
+
+// The byte of -128, which is its own negation.
+const OWN_NEGATION: u8 = 128;
 
 // How many ordinary votes a header may have.
 pub const PARAM_VOTES_COUNT: u8 = 2;
@@ -31,13 +35,18 @@ fn times(v: u8, a: u8, b: u8, c: u8) -> u8
     one(v == a) + one(v == b) + one(v == c)
 }
 
+// Whether a byte is an ordinary vote.
+fn is_ordinary(x: u8) -> bool
+    ensures { λ r. ⌜ r ≡ (not (eqb x 0) && not (eqb x softForkVote)) ⌝ }
+{
+    (x != 0) & (x != SOFT_FORK_VOTE)
+}
+
 // How many of three bytes are ordinary votes.
 fn ordinary(a: u8, b: u8, c: u8) -> u8
     ensures { λ r. ⌜ r ≡ count (λ x. not (eqb x 0) && not (eqb x softForkVote)) (a ∷ b ∷ c ∷ []) ⌝ }
 {
-    one((a != 0) & (a != SOFT_FORK_VOTE))
-        + one((b != 0) & (b != SOFT_FORK_VOTE))
-        + one((c != 0) & (c != SOFT_FORK_VOTE))
+    one(is_ordinary(a)) + one(is_ordinary(b)) + one(is_ordinary(c))
 }
 
 // The byte of the negation, which wraps.
@@ -63,21 +72,24 @@ fn vote_fault(v: u8, a: u8, b: u8, c: u8) -> u8
     0
 }
 
-// Whether something is wrong with it.
-fn is_faulty(v: u8, a: u8, b: u8, c: u8) -> bool
-    ensures { λ r. ⌜ r ≡ not (eqb (cond (eqb v 0) 0 (fault (votesIn (a ∷ b ∷ c ∷ [])) (signedOf 8 v))) 0) ⌝ }
+// Whether two bytes are the same, or one is the negation of the other.
+fn clashes(x: u8, y: u8) -> bool
+    ensures { λ r. ⌜ r ≡ (eqb x y || eqb ((x + y) % 256) 0) ⌝ }
 {
-    (v != 0) & ((1 < times(v, a, b, c)) | (0 < times(negated(v), a, b, c)))
+    (x == y) | (std::num::wrapping_add_u8(x, y) == 0)
 }
 
-// For the layers above: whether a header's votes are turned down, by a test without branches.
+// For the layers above: whether a header's votes are turned down, by a test without branches. Two votes clash, or one is its own negation,
+// or all three are ordinary.
 pub fn is_illegal(a: u8, b: u8, c: u8) -> bool
     ensures { λ r. ⌜ r ≡ not (eqb (checkHeaderVotes (a ∷ b ∷ c ∷ [])) 0) ⌝ }
 {
-    (PARAM_VOTES_COUNT < ordinary(a, b, c))
-        | is_faulty(a, a, b, c)
-        | is_faulty(b, a, b, c)
-        | is_faulty(c, a, b, c)
+    ((a != 0) & (clashes(a, b) | clashes(a, c)))
+        | ((b != 0) & clashes(b, c))
+        | (a == OWN_NEGATION)
+        | (b == OWN_NEGATION)
+        | (c == OWN_NEGATION)
+        | (is_ordinary(a) & is_ordinary(b) & is_ordinary(c))
 }
 
 fn first_of(x: u8, y: u8) -> u8

@@ -1,10 +1,7 @@
 // The tally of an epoch. docs/RULES.md, "Tally".
 ghost use mathlib.Core.Path.{_≡_};
 ghost use Prim.Native.Nat.{_≤_};
-ghost use mathlib.Core.Bool.{cond};
-ghost use lib.Dec.{eqb};
 ghost use lib.ListN.{length};
-ghost use Rattle.voting.specs.Common.{count};
 ghost use Rattle.voting.specs.Tally.{noTally, slotEntry, seeded, tallyVotesSeeded};
 use codec::refusal;
 use codec::signed;
@@ -38,26 +35,6 @@ pub fn no_tally() -> Tally
     }
 }
 
-fn one(b: bool) -> u32
-    ensures { λ r. ⌜ (r ≡ cond b 1 0) × (r ≤ 1) ⌝ }
-{
-    if b { 1 } else { 0 }
-}
-
-// How often a byte stands among the votes.
-fn times_in(votes: &[u8], b: u8) -> u32
-    requires { ⌜ length (now votes) ≤ 196608 ⌝ }
-    ensures { λ r. ⌜ r ≡ count (eqb b) (now (votes .entry)) ⌝ }
-{
-    let mut n: u32 = 0;
-    let mut i: usize = 0;
-    while i < votes.len() {
-        n += one(b == votes[i]);
-        i += 1;
-    }
-    n
-}
-
 fn slot_entry(later: &[u8], b: u8) -> Entry
     requires { ⌜ length (now later) ≤ 196608 ⌝ }
     ensures { λ r. ⌜ r ≡ slotEntry (now (later .entry)) b ⌝ }
@@ -65,7 +42,7 @@ fn slot_entry(later: &[u8], b: u8) -> Entry
     if b == 0 {
         return Entry { id: 0, count: 0 };
     }
-    let n = times_in(later, b);
+    let n = counting::times_in(later, b) as u32;
     let id = signed::i8_of(b);
     Entry { id, count: n + 1 }
 }

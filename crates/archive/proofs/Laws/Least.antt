@@ -34,7 +34,8 @@ use Rattle.archive.specs.declared.replay.Verdict.{Verdict}
 use Rattle.archive.specs.declared.replay.Verdict.the-variants.{Accepted, Refused, Mismatch}
 use Rattle.archive.specs.declared.replay.Replayed.{Replayed}
 use Rattle.archive.specs.Record.{recordAt}
-use Rattle.archive.specs.Headers.{headersRefusal, checkHeaders, forkRefusals, checkForkVotes}
+use Rattle.headers.specs.Headers.{headersRefusal, checkHeaders}
+use Rattle.archive.specs.ForkVotes.{forkRefusals, checkForkVotes}
 use Rattle.archive.specs.Replay.{refuses, gate, onward, afterMatch, afterBoundary, heightRefusal, boundaryOn, onParts, bodyBytes, voteBytes, onRecord, votesSize, replayOf, Exhausted, verdictNumber, verdictId, LeastOfRecord}
 use Rattle.archive.proofs.Laws.Replay.{match-stop, exhausted}
 

@@ -14,7 +14,7 @@ use Rattle.extension.proofs.Laws.Parts.{part-length, part-join, part-cons, drop
 use Rattle.archive.specs.declared.record.RecordPlace.{RecordPlace}
 use Rattle.archive.specs.declared.record.RecordAt.the-variants.{Whole}
 use Rattle.archive.specs.Record.{taggedBytes, recordBytes, bodyMost, recordAt, placeOf, Encodes, RecordExact}
-use Rattle.archive.proofs.Laws.Headers.{drop-three}
+use Rattle.headers.proofs.Laws.Headers.{drop-three}
 use Rattle.archive.proofs.Laws.Record.{sizeOf, Here, here, ends-here}
 use Rattle.archive.proofs.Laws.RecordTrip.{Three, whole-three, three-whole, height-inside}
 

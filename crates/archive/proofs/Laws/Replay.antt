@@ -36,7 +36,8 @@ use Rattle.archive.specs.declared.replay.Verdict.the-variants.{Accepted,
 use Rattle.archive.specs.declared.replay.Replayed.{Replayed}
 use Rattle.archive.specs.declared.replay.Opened.{Opened}
 use Rattle.archive.specs.Record.{recordAt}
-use Rattle.archive.specs.Headers.{checkHeaders, forkRefusals, checkForkVotes}
+use Rattle.headers.specs.Headers.{checkHeaders}
+use Rattle.archive.specs.ForkVotes.{forkRefusals, checkForkVotes}
 use Rattle.archive.specs.Replay.{refuses, gate, bodyBytes, voteBytes, onward, afterMatch, afterBoundary, heightRefusal, earlyRefusal, onParts, onRecord, votesSize, replayOf, Exhausted, mayOpen, openingRefusal, opened, openOf}
 use Rattle.archive.specs.Rounds.{RoundsKept}
 use Rattle.archive.specs.Steps.{StepsBy, StepsKept}

@@ -49,7 +49,8 @@ use Rattle.archive.specs.declared.replay.Verdict.{Verdict}
 use Rattle.archive.specs.declared.replay.Verdict.the-variants.{Accepted, Refused, Mismatch}
 use Rattle.archive.specs.declared.replay.Replayed.{Replayed}
 use Rattle.archive.specs.Record.{recordAt}
-use Rattle.archive.specs.Headers.{headersRefusal, checkHeaders, forkRefusals, checkForkVotes}
+use Rattle.headers.specs.Headers.{headersRefusal, checkHeaders}
+use Rattle.archive.specs.ForkVotes.{forkRefusals, checkForkVotes}
 use Rattle.archive.specs.Replay.{refuses, gate, bodyBytes, voteBytes, onward, afterMatch, afterBoundary, heightRefusal, onParts, onRecord, votesSize, replayOf}
 use Rattle.archive.proofs.Laws.RecordTrip.{votes-long}
 use Rattle.archive.specs.Rounds.{Core, core, full, answerBy, answer, recordHeight, recordVotes, interface, stateAfter, Kept}

@@ -4,7 +4,8 @@ use mathlib.Core.Path.{refl}
 use Rattle.codec.specs.Signed.{modulo, bitsOf, signedOf, wrapped}
 use Rattle.codec.specs.BigEndian.{bigEndian, bigEndianBytes}
 use Rattle.codec.specs.Vlq.{continued, byte, numberOf, low64, below, vlqOf, placed, vlqAt}
-use Rattle.voting.specs.Common.{eqZ, count, first, gate}
+use Rattle.counting.specs.Count.{count}
+use Rattle.voting.specs.Common.{eqZ, first, gate}
 use Rattle.voting.specs.Settings.{changeApproved, settingsLarge}
 use Rattle.voting.specs.Table.{lookup, update}
 use Rattle.voting.specs.Header.{votesIn, negation, ordinaryVote, fault, faultIn, checkVotes, checkHeaderVotes, votesFor}
@@ -21,7 +22,8 @@ use Rattle.extension.specs.Parameters.{noParameters, entryOf, numberIn, taken, 
 use Rattle.extension.specs.Update.{updateOf}
 use Rattle.extension.specs.Boundary.{activates, withUpdate, computedOf}
 use Rattle.archive.specs.Record.{taggedBytes, recordBytes, sizedAt, taggedAt, withVotes, withBody, withHeight, recordAt}
-use Rattle.archive.specs.Headers.{headersRefusal, checkHeaders, forkRefusals, checkForkVotes}
+use Rattle.headers.specs.Headers.{headersRefusal, checkHeaders}
+use Rattle.archive.specs.ForkVotes.{forkRefusals, checkForkVotes}
 use Rattle.archive.specs.Replay.{gate as gateReplay, afterMatch, afterBoundary, heightRefusal, onParts, onRecord, replayOf}
 use Rattle.archive.specs.Rounds.{answerBy, answer, recordVotes, stateAfter}
 use Rattle.archive.specs.Steps.{epochBefore}

@@ -7,7 +7,7 @@ use Prim.Native.Nat.{ℕ, zero, suc, _+_, _-_, _/_, _%_, _≤_, _<_}
 use native.Mathlib.Omega.{arith}
 use lib.Dec.{eqb, ltb, leb}
 use borrow.Author.Tests.{eqb-true, eqb-false, eq-eqb, ne-eqb, lt-ltb, le-ltb, le-leb, lt-leb, leb-true, leb-false}
-use Rattle.voting.specs.Common.{count}
+use Rattle.counting.specs.Count.{count}
 use Rattle.voting.specs.Header.{votesIn, faultIn, checkVotes, checkHeaderVotes}
 use Rattle.legal.specs.declared.next.NextVotes.{NextVotes}
 use Rattle.legal.specs.declared.next.NextVotes.the-variants.{Votes, Nothing}

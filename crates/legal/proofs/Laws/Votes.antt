@@ -10,10 +10,11 @@ use lib.IntN.{ℤ}
 use borrow.Author.Tests.{ltb-false, le-ltb}
 use Rattle.codec.specs.Refusal.{tooManyVotes, repeatedVote, contradictoryVote}
 use Rattle.codec.specs.Signed.{signedOf}
-use Rattle.voting.specs.Common.{eqZ, count}
+use Rattle.counting.specs.Count.{count}
+use Rattle.voting.specs.Common.{eqZ}
 use Rattle.voting.specs.Header.{votesIn, negation, ordinaryVote, fault, faultIn, checkVotes, checkHeaderVotes}
 use Rattle.voting.proofs.Laws.Header.{first-pass, first-zero}
-use Rattle.voting.proofs.Laws.Tally.{count-append}
+use Rattle.counting.proofs.Laws.Count.{count-append}
 
 -- a test of counts that passes also passes with smaller ones
 fewer : (n m n′ m′ : ℕ) → n′ ≤ n → m′ ≤ m → cond (ltb 1 n) repeatedVote (cond (ltb 0 m) contradictoryVote 0) ≡ 0 → cond (ltb 1 n′) repeatedVote (cond (ltb 0 m′) contradictoryVote 0) ≡ 0

@@ -12,7 +12,8 @@ use lib.ListN.{length, drop, getD, set, replicate, length-replicate}
 use lib.Seq.{drop-cons, set-at, set-getD}
 use Rattle.codec.specs.Refusal.{outputShort, windowLengthOutside}
 use Rattle.codec.proofs.Laws.Lists.{all-elements}
-use Rattle.voting.specs.Common.{count, first}
+use Rattle.counting.specs.Count.{count}
+use Rattle.voting.specs.Common.{first}
 use Rattle.voting.specs.Header.{votesIn, faultIn, checkVotes, checkHeaderVotes}
 use Rattle.voting.proofs.Laws.Tests.{both}
 use Rattle.voting.proofs.Laws.Header.{first-pass, first-stop, first-zero}

@@ -9,7 +9,8 @@ use borrow.Author.Tests.{eqb-true, eqb-false, ne-eqb}
 use lib.Dec.{eqb}
 use lib.ListN.{length, take, drop, getD, length-append, length-drop, replicate, length-replicate, getD-replicate, replicate-append-replicate, List·getD-append}
 use lib.Seq.{length-take-le, take-at, drop-at}
-use Rattle.voting.specs.Common.{count, Each, Bytes}
+use Rattle.counting.specs.Count.{count}
+use Rattle.voting.specs.Common.{Each, Bytes}
 use Rattle.voting.specs.Header.{checkHeaderVotes, votesFor, AllLegal}
 use Rattle.voting.specs.Tally.{headers}
 use Rattle.voting.proofs.Laws.Tests.{by-test}

@@ -9,7 +9,8 @@ use native.Mathlib.Omega.{arith}
 use borrow.Author.Tests.{eqb-true, eqb-false, ltb-true, ltb-false, ne-eqb}
 use lib.Dec.{eqb, ltb}
 use lib.ListN.{length, drop, getD, replicate, length-drop}
-use Rattle.voting.specs.Common.{count, Each}
+use Rattle.counting.specs.Count.{count}
+use Rattle.voting.specs.Common.{Each}
 use Rattle.voting.specs.Header.{checkHeaderVotes, votesFor}
 use Rattle.voting.proofs.Laws.Tests.{by-test}
 use Rattle.support.specs.declared.window.Window.{Window}

@@ -9,8 +9,9 @@ use borrow.Author.Tests.{eqb-true, eqb-false}
 use lib.Dec.{eqb}
 use lib.ListN.{length, take, drop, getD, set, length-set, length-append, length-drop, drop-of-length-le}
 use lib.Seq.{take-all, drop-cons, take-suc-set, drop-set-lt, drop-set-add, take-set-lt, getD-take, getD-drop, getD-set-other, length-take-le}
-use Rattle.voting.specs.Common.{count, Each, Bytes}
-use Rattle.voting.proofs.Laws.Tally.{count-most, count-append}
+use Rattle.counting.specs.Count.{count}
+use Rattle.voting.specs.Common.{Each, Bytes}
+use Rattle.counting.proofs.Laws.Count.{count-most, count-append}
 use Rattle.support.specs.Window.{added, oneMore, oneLess, replaced}
 use Rattle.support.proofs.Laws.Cells.{added-length, added-drop, added-zero, added-at}
 

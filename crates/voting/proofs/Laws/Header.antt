@@ -1,7 +1,7 @@
 -- Votes of a header: ids against bytes, how often they are there, and what a legal header has.
 -- Assumes nothing.
 use mathlib.Core.Path.{_≡_, refl, sym, ap, _∙_, subst}
-use mathlib.Core.Bool.{Bool, true, false, not, cond, _&&_, _||_}
+use mathlib.Core.Bool.{Bool, true, false, not, cond, _&&_}
 use mathlib.Core.List.{List, [], _∷_}
 use Prim.Native.Nat.{ℕ, zero, suc, _+_, _-_, _≤_, _<_}
 use native.Mathlib.Omega.{arith}
@@ -12,7 +12,8 @@ use borrow.Author.Tests.{ltb-true, ltb-false, eqb-true, eqb-false, lt-ltb, le-lt
 use Rattle.codec.specs.Refusal.{tooManyVotes, repeatedVote, contradictoryVote}
 use Rattle.codec.specs.Signed.{modulo, bitsOf, signedOf, wrapped}
 use Rattle.codec.proofs.Laws.Signed.{signed-back}
-use Rattle.voting.specs.Common.{eqZ, count, first, Each, Bytes}
+use Rattle.counting.specs.Count.{count}
+use Rattle.voting.specs.Common.{eqZ, first, Each, Bytes}
 use Rattle.voting.proofs.Laws.Tests.{eqb-comm}
 use Rattle.voting.proofs.Laws.Integers.{eqZ-same, ne-eqZ, eqZ-comm}
 use Rattle.voting.proofs.Laws.Each.{each}
@@ -92,11 +93,11 @@ unfolding bitsOf modulo
 bits-small (pos n) = omega arith
 bits-small (negsuc n) = omega arith
 
-negation-bits : (z : ℤ) → bitsOf 8 (negation z) ≡ bitsOf 8 (negℤ z)
+pub negation-bits : (z : ℤ) → bitsOf 8 (negation z) ≡ bitsOf 8 (negℤ z)
 unfolding negation wrapped
 negation-bits z = signed-back w8 (bitsOf 8 (negℤ z)) (bits-small (negℤ z))
 
-negation-id : (z : ℤ) → signedOf 8 (bitsOf 8 (negation z)) ≡ negation z
+pub negation-id : (z : ℤ) → signedOf 8 (bitsOf 8 (negation z)) ≡ negation z
 unfolding negation wrapped
 negation-id z = ap (signedOf 8) (negation-bits z)
 
@@ -180,45 +181,6 @@ pub three-faults : (all : List ℤ) (a b c : ℕ) {x y z u r : ℕ} → x ≡ co
 three-faults all a b c p q s t w =
     rw (fault-cons all a (b ∷ c ∷ []), fault-cons all b (c ∷ []), fault-cons all c [], no-votes all, first-none (cond (eqb c 0) 0 (fault all (signedOf 8 c))), ← p, ← q, ← s, ← t) w
 
--- Whether something is wrong, as one truth value
-module _ (v : ℕ) (h : v < 256) (bs : List ℕ) (small : Bytes bs) {t m u : ℕ} (is-t : t ≡ count (eqb v) bs) (is-m : m ≡ bitsOf 8 (negation (signedOf 8 v))) (is-u : u ≡ count (eqb m) bs) where
-  abbrev faulty : Bool
-  faulty = not (eqb (cond (eqb v 0) 0 (fault (votesIn bs) (signedOf 8 v))) 0)
-
-  pub vote-illegal : (not (eqb v 0) && (ltb 1 t || ltb 0 u)) ≡ faulty
-  vote-illegal = go (eqb v 0) refl (ltb 1 t) refl (ltb 0 u) refl
-    where
-      go : (z : Bool) → eqb v 0 ≡ z → (p : Bool) → ltb 1 t ≡ p → (q : Bool) → ltb 0 u ≡ q → (not z && (p || q)) ≡ faulty
-      go true e p k q l = rw e
-      go false e true k q l = ap (λ (n : ℕ). not (eqb n 0)) (vote-repeated v h (eqb-false v 0 e) bs small is-t (ltb-true 1 t k))
-      go false e false k true l = ap (λ (n : ℕ). not (eqb n 0)) (vote-opposed v h (eqb-false v 0 e) bs small is-t (ltb-false 1 t k) is-m is-u (ltb-true 0 u l))
-      go false e false k false l = ap (λ (n : ℕ). not (eqb n 0)) (vote-fine v h (eqb-false v 0 e) bs small is-t (ltb-false 1 t k) is-m is-u (ltb-false 0 u l))
-
-some-refusal : (p q : ℕ) → (not (eqb p 0) || not (eqb q 0)) ≡ not (eqb (first p q) 0)
-unfolding first
-some-refusal zero q = refl
-some-refusal (suc p) q = rw (ne-eqb (suc p) 0 (λ e. omega arith))
-
-or-or : (x y z : Bool) → (x || y) || z ≡ x || (y || z)
-or-or true y z = refl
-or-or false y z = refl
-
-module _ (a b c : ℕ) {n : ℕ} (is-n : n ≡ count (λ b. not (eqb b 0) && not (eqb b softForkVote)) (a ∷ b ∷ c ∷ [])) where
-  abbrev wrong : ℕ → ℕ
-  wrong v = cond (eqb v 0) 0 (fault (votesIn (a ∷ b ∷ c ∷ [])) (signedOf 8 v))
-
-  pub header-illegal : {x y z : Bool} → x ≡ not (eqb (wrong a) 0) → y ≡ not (eqb (wrong b) 0) → z ≡ not (eqb (wrong c) 0)
-      → (((ltb 2 n || x) || y) || z) ≡ not (eqb (checkHeaderVotes (a ∷ b ∷ c ∷ [])) 0)
-  header-illegal p q r = rw (p, q, r) (go (ltb 2 n) refl)
-    where
-      go : (m : Bool) → ltb 2 n ≡ m → (((m || not (eqb (wrong a) 0)) || not (eqb (wrong b) 0)) || not (eqb (wrong c) 0)) ≡ not (eqb (checkHeaderVotes (a ∷ b ∷ c ∷ [])) 0)
-      go true k = ap (λ (e : ℕ). not (eqb e 0)) (many-votes (a ∷ b ∷ c ∷ []) is-n (ltb-true 2 n k))
-      go false k =
-          or-or (not (eqb (wrong a) 0)) (not (eqb (wrong b) 0)) (not (eqb (wrong c) 0))
-          ∙ ap (λ (t : Bool). not (eqb (wrong a) 0) || t) (some-refusal (wrong b) (wrong c))
-          ∙ some-refusal (wrong a) (first (wrong b) (wrong c))
-          ∙ ap (λ (e : ℕ). not (eqb e 0)) (three-faults (votesIn (a ∷ b ∷ c ∷ [])) a b c refl refl refl refl refl ∙ few-votes (a ∷ b ∷ c ∷ []) is-n (ltb-false 2 n k))
-
 -- Legal headers
 pub first-zero : (n m : ℕ) → first n m ≡ 0 → (n ≡ 0) × (m ≡ 0)
 unfolding first
@@ -232,6 +194,14 @@ legal-faults bs = go (ltb 2 (count ordinaryVote (votesIn bs)))
     go : (t : Bool) → cond t tooManyVotes (faultIn (votesIn bs) (votesIn bs)) ≡ 0 → faultIn (votesIn bs) (votesIn bs) ≡ 0
     go true e = absurd (omega arith)
     go false e = e
+
+-- it has no more than two ordinary votes
+pub legal-few : (bs : List ℕ) → checkHeaderVotes bs ≡ 0 → count (λ b. not (eqb b 0) && not (eqb b softForkVote)) bs ≤ 2
+legal-few bs e = go (ltb 2 (count (λ b. not (eqb b 0) && not (eqb b softForkVote)) bs)) refl
+  where
+    go : (t : Bool) → ltb 2 (count (λ b. not (eqb b 0) && not (eqb b softForkVote)) bs) ≡ t → count (λ b. not (eqb b 0) && not (eqb b softForkVote)) bs ≤ 2
+    go true k = absurd (omega (arith, many-votes bs refl (ltb-true _ _ k), e))
+    go false k = ltb-false _ _ k
 
 -- a vote of the bytes has no fault where none of them has
 vote-faults : (all : List ℤ) (v : ℕ) → (v ≡ 0 → ⊥) → (bs : List ℕ) → faultIn all (votesIn bs) ≡ 0 → 0 < count (eqb v) bs → fault all (signedOf 8 v) ≡ 0

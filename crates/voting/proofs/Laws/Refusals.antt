@@ -7,7 +7,8 @@ use Prim.Native.Nat.{ℕ, zero, suc}
 use lib.Dec.{ltb, eqb}
 use lib.IntN.{ℤ, pos}
 use Rattle.codec.specs.Refusal.{tooManyVotes, repeatedVote, contradictoryVote, entryDiffers, votingLengthZero, settingLarge, votesCollectedAbsent}
-use Rattle.voting.specs.Common.{eqZ, count, first, gate}
+use Rattle.counting.specs.Count.{count}
+use Rattle.voting.specs.Common.{eqZ, first, gate}
 use Rattle.voting.specs.Settings.{votingLength, settingsLarge}
 use Rattle.voting.specs.Table.{lookup, withFork}
 use Rattle.voting.specs.Tally.{firstCount}

@@ -12,7 +12,8 @@ use borrow.Author.Tests.{lt-ltb, eqb-true, eq-eqb}
 use Rattle.codec.specs.Signed.{bitsOf, signedOf}
 use Rattle.codec.proofs.Laws.Signed.{signed-back}
 use Rattle.voting.specs.declared.tally.Entry.{Entry}
-use Rattle.voting.specs.Common.{eqZ, count, Each, Pairwise, Bytes}
+use Rattle.counting.specs.Count.{count}
+use Rattle.voting.specs.Common.{eqZ, Each, Pairwise, Bytes}
 use Rattle.voting.specs.Header.{negation, checkHeaderVotes, votesFor, AllLegal}
 use Rattle.voting.specs.Tally.{headers, noEntry, noTally, slotEntry, seeded, entry, entries}
 use Rattle.voting.specs.Order.{Compatible, Consistent}

@@ -2,14 +2,14 @@
 -- Assumes nothing.
 use mathlib.Core.Path.{_≡_, refl, sym, ap, _∙_, subst}
 use mathlib.Core.Bool.{Bool, true, false, cond}
-use mathlib.Core.List.{List, [], _∷_, _++_}
+use mathlib.Core.List.{List, [], _∷_}
 use Prim.Native.Nat.{ℕ, zero, suc, _+_, _-_, _*_, _/_, _≤_, _<_}
 use native.Mathlib.Numerals.{add-one}
 use native.Mathlib.Omega.{arith}
 use lib.Dec.{eqb, ltb}
 use lib.IntN.{ℤ, pos}
-use lib.ListN.{length, getD, take, drop, length-drop, drop-of-length-le}
-use lib.Seq.{drop-cons, take-all, take-length, length-take-le}
+use lib.ListN.{length, getD, take, drop, length-drop}
+use lib.Seq.{take-all, take-length, length-take-le}
 use mir.Syntax.{w8}
 use mir.Val.{SFits, ofZ}
 use borrow.Author.Tests.{eqb-true, lt-ltb, le-ltb, eq-eqb, ne-eqb}
@@ -18,36 +18,12 @@ use Rattle.codec.specs.Signed.{signedOf}
 use Rattle.voting.specs.declared.tally.Entry.{Entry}
 use Rattle.voting.specs.declared.tally.Tally.{Tally}
 use Rattle.voting.specs.declared.tally.Tallied.{Tallied}
-use Rattle.voting.specs.Common.{eqZ, count}
+use Rattle.counting.specs.Count.{count}
+use Rattle.voting.specs.Common.{eqZ}
 use Rattle.voting.specs.Header.{softForkVote, votesFor, AllLegal}
 use Rattle.voting.specs.Tally.{headers, whole, noEntry, noTally, slotEntry, seeded, seeds, tallyVotesSeeded, entry, entries, firstCount, firstVotes, countedFor}
 use Rattle.voting.proofs.Laws.Integers.{eqZ-true, ne-eqZ, is-number}
 use Rattle.voting.proofs.Laws.Header.{Alike, small-id, legal-once}
-
--- Counts
-pub count-most : {A : Type 0} (p : A → Bool) (xs : List A) → count p xs ≤ length xs
-unfolding count
-count-most p [] = omega arith
-count-most p (x ∷ xs) = let ih = count-most p xs in go (p x) ih
-  where
-    go : (t : Bool) → count p xs ≤ length xs → cond t 1 0 + count p xs ≤ suc (length xs)
-    go true h = omega arith
-    go false h = omega arith
-
-pub count-append : {A : Type 0} (p : A → Bool) (xs ys : List A) → count p (xs ++ ys) ≡ count p xs + count p ys
-unfolding count
-count-append p [] ys = omega arith
-count-append p (x ∷ xs) ys = omega (arith, count-append p xs ys)
-
--- from a position on
-module _ (p : ℕ → Bool) (s : List ℕ) (i : ℕ) where
-  pub count-here : i < length s → count p (drop i s) ≡ cond (p (getD s i 0)) 1 0 + count p (drop (i + 1) s)
-  unfolding count
-  count-here h = rw (drop-cons s i 0 h, add-one)
-
-  pub count-end : length s ≤ i → count p (drop i s) ≡ 0
-  unfolding count
-  count-end h = rw (drop-of-length-le s h)
 
 -- A slot's entry
 module _ (later : List ℕ) (b : ℕ) where
