@@ -68,18 +68,19 @@ refused-is s e q r is-r =
 pub met : (s : List ℕ) (at : ℕ) → length s ≤ 65536 → (x y : FieldAt) → x ≡ bodyField s at → x ≡ y → y ≡ fieldAt s at
 met s at h x y is-x e = sym e ∙ is-x ∙ sym (at-here s at h)
 
--- what is left of the fields, and all of them
-abbrev fieldsFrom : List ℕ → ℕ → ℕ → Listing Field
-fieldsFrom s n at = listing (readField s) n at
+-- so many fields from a position on
+abbrev listed : List ℕ → ℕ → ℕ → Listing Field
+listed s n at = listing (readField s) n at
 
+-- a place in the pass: what was kept so far, with what is left of the fields, gives what all of them give
 pub record Walking (s : List ℕ) (count begin left at : ℕ) (wrong seen : Bool) (start end : ℕ) (found : List Slot) : Type 0 where
-  pub closes : closed count begin (fieldsFrom s left at) ≡ closed count begin (fieldsFrom s count begin)
-  pub wrongs : (wrong || any wrongParameter (items (fieldsFrom s left at))) ≡ any wrongParameter (items (fieldsFrom s count begin))
+  pub closes : closed count begin (listed s left at) ≡ closed count begin (listed s count begin)
+  pub wrongs : (wrong || any wrongParameter (items (listed s left at))) ≡ any wrongParameter (items (listed s count begin))
   pub ordered : start ≤ end
   pub inside : end ≤ length s
   pub unseen : seen ≡ false → part s start end ≡ []
-  pub update : cond seen (part s start end) (updateIn (items (fieldsFrom s left at))) ≡ updateIn (items (fieldsFrom s count begin))
-  pub slots : stored (items (fieldsFrom s left at)) found ≡ stored (items (fieldsFrom s count begin)) noSlots
+  pub update : cond seen (part s start end) (updateIn (items (listed s left at))) ≡ updateIn (items (listed s count begin))
+  pub slots : stored (items (listed s left at)) found ≡ stored (items (listed s count begin)) noSlots
 
 pub walk-begins : (s : List ℕ) (count begin : ℕ) → Walking s count begin count begin false false 0 0 noSlots
 walk-begins s count begin =
@@ -89,29 +90,29 @@ module _ (s : List ℕ) (count begin left at : ℕ) (wrong seen : Bool) (start e
   -- a field
   module _ (more : 0 < left) (f : FieldPlace) (e : HasField f ≡ fieldAt s at) (bad : Bool) (is-bad : bad ≡ wrongSize (f .key0) (f .key1) (f .end - f .start))
       (k : ℕ) (is-k : k ≡ placeOf (f .key0) (f .key1)) (x : Slot) (is-x : x ≡ slotIn (part s (f .start) (f .end))) (u : Bool) (is-u : u ≡ updateKey (f .key0) (f .key1)) where
-    next : fieldsFrom s left at ≡ item (fieldIn s f) (fieldsFrom s (left - 1) (f .end))
+    next : listed s left at ≡ item (fieldIn s f) (listed s (left - 1) (f .end))
     next = listing-item (readField s) left at more (fieldIn s f) (f .end) (field-read s at f e)
 
-    here : items (fieldsFrom s left at) ≡ fieldIn s f ∷ items (fieldsFrom s (left - 1) (f .end))
+    here : items (listed s left at) ≡ fieldIn s f ∷ items (listed s (left - 1) (f .end))
     here = items-item _ _ _ next
 
-    closes-on : closed count begin (fieldsFrom s (left - 1) (f .end)) ≡ closed count begin (fieldsFrom s count begin)
+    closes-on : closed count begin (listed s (left - 1) (f .end)) ≡ closed count begin (listed s count begin)
     closes-on = closed-item count begin _ _ _ next ∙ w .closes
 
     or-next : (a b c : Bool) → ((a || b) || c) ≡ (a || (b || c))
     or-next true b c = refl
     or-next false b c = refl
 
-    wrongs-on : ((wrong || bad) || any wrongParameter (items (fieldsFrom s (left - 1) (f .end)))) ≡ any wrongParameter (items (fieldsFrom s count begin))
+    wrongs-on : ((wrong || bad) || any wrongParameter (items (listed s (left - 1) (f .end)))) ≡ any wrongParameter (items (listed s count begin))
     unfolding any
     wrongs-on =
-        let rest = any wrongParameter (items (fieldsFrom s (left - 1) (f .end))) in
+        let rest = any wrongParameter (items (listed s (left - 1) (f .end))) in
         or-next wrong bad rest
         ∙ ap (λ (b : Bool). wrong || (b || rest)) (sym (wrong-place s at f e bad is-bad))
         ∙ ap (λ (fs : List Field). wrong || any wrongParameter fs) (sym here)
         ∙ w .wrongs
 
-    slots-on : stored (items (fieldsFrom s (left - 1) (f .end))) (set found k x) ≡ stored (items (fieldsFrom s count begin)) noSlots
+    slots-on : stored (items (listed s (left - 1) (f .end))) (set found k x) ≡ stored (items (listed s count begin)) noSlots
     unfolding stored
     slots-on = rw (is-k, is-x) (ap (λ (fs : List Field). stored fs found) (sym here) ∙ w .slots)
 
@@ -148,18 +149,18 @@ module _ (s : List ℕ) (count begin left at : ℕ) (wrong seen : Bool) (start e
         }
 
   -- the end, or a field that is cut
-  module _ (is-body : closed count begin (fieldsFrom s count begin) ≡ extensionOf s) where
+  module _ (is-body : closed count begin (listed s count begin) ≡ extensionOf s) where
     pub walk-cut : 0 < left → (e : ℕ) → NoField e ≡ fieldAt s at → refusedSection e ≡ extensionOf s
     walk-cut more e q = closed-stop count begin _ e (listing-stop (readField s) left at more e (field-unread s at e q)) ∙ w .closes ∙ is-body
 
     module _ (none : left ≤ 0) where
-      over : items (fieldsFrom s left at) ≡ []
+      over : items (listed s left at) ≡ []
       over = items-done _ at (listing-none (readField s) left at none)
 
       read-is : record { refusal = 0; section = section count begin at } ≡ extensionOf s
       read-is = closed-done count begin _ at (listing-none (readField s) left at none) ∙ w .closes ∙ is-body
 
-      fields-are : fieldsOf s ≡ items (fieldsFrom s count begin)
+      fields-are : fieldsOf s ≡ items (listed s count begin)
       unfolding fieldsOf sectionItems
       fields-are = rw (← read-is)
 
@@ -167,7 +168,7 @@ module _ (s : List ℕ) (count begin left at : ℕ) (wrong seen : Bool) (start e
       or-none true = refl
       or-none false = refl
 
-      wrong-is : any wrongParameter (items (fieldsFrom s count begin)) ≡ wrong
+      wrong-is : any wrongParameter (items (listed s count begin)) ≡ wrong
       unfolding any
       wrong-is = sym (sym (or-none wrong) ∙ ap (λ (fs : List Field). wrong || any wrongParameter fs) (sym over) ∙ w .wrongs)
 
@@ -195,7 +196,7 @@ module _ (s : List ℕ) (count begin left at : ℕ) (wrong seen : Bool) (start e
           → WalkedIs s (record { parsed = x; start = start; end = end; found = t })
       unfolding stored
       walk-right n x is-x t is-t =
-          let fs = items (fieldsFrom s count begin) in
+          let fs = items (listed s count begin) in
           let all : found ≡ stored fs noSlots = ap (λ (gs : List Field). stored gs found) (sym over) ∙ w .slots in
           record {
             parsed = check-right s fs fields-are (wrong-is ∙ n) x (is-x ∙ read-is);
