@@ -128,11 +128,10 @@ opened (suc n) height t = record { refusal = suc n; state = record { settings = 
 unfoldable pub openOf : ℕ → Table → Opened
 openOf height t = opened (openingRefusal height) height t
 
--- the first four tests of `onParts`, taken together, for the function that makes them
-unfoldable pub earlyRefusal : Replay → ℕ → List ℕ → List ℕ → ℕ
-earlyRefusal s height body votes =
-    first (heightRefusal s height)
-    (first (checkHeaders votes) (first (checkForkVotes (s .settings) (s .table) height (take 3 votes)) (checkBody body .refusal)))
+-- the first three tests of `onParts`, taken together, for the function that makes them
+unfoldable pub earlyRefusal : Replay → ℕ → List ℕ → ℕ
+earlyRefusal s height votes =
+    first (heightRefusal s height) (first (checkHeaders votes) (checkForkVotes (s .settings) (s .table) height (take 3 votes)))
 
 -- a state at which no epoch is left turns every well-formed record down by 26
 abbrev pub Exhausted : Replay → List ℕ → Replayed → Type 0

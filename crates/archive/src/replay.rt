@@ -3,10 +3,8 @@ use crate::fork_votes;
 use crate::record;
 use crate::record::RecordAt;
 use codec::refusal;
-use extension::body;
 use extension::boundary;
 use extension::boundary::Computed;
-use extension::parameters;
 use extension::parameters::Matched;
 use voting::fork;
 use voting::header;
@@ -21,8 +19,9 @@ ghost use lib.ListN.{length, take, drop};
 ghost use Rattle.voting.specs.Settings.{votingLength, mainnet};
 ghost use Rattle.voting.specs.Tally.{noTally};
 ghost use Rattle.rounds.specs.Epochs.{boundaryVotes};
+ghost use Rattle.walk.specs.Walk.{matchFound};
 ghost use Rattle.archive.specs.ForkVotes.{checkForkVotes};
-ghost use Rattle.archive.specs.Replay.{refuses, onward, afterMatch, afterBoundary, heightRefusal, earlyRefusal, onParts, replayOf, Exhausted, LeastOfRecord, verdictNumber, verdictId, mayOpen, openOf};
+ghost use Rattle.archive.specs.Replay.{refuses, gate, onward, afterMatch, heightRefusal, earlyRefusal, onParts, replayOf, Exhausted, LeastOfRecord, verdictNumber, verdictId, mayOpen, openOf};
 ghost use Rattle.archive.specs.Rounds.{RoundsKept};
 ghost use Rattle.archive.specs.Steps.{StepsKept};
 ghost use Rattle.archive.specs.Mainnet.{MainnetSteps};
@@ -158,22 +157,30 @@ fn on_parts(s: Replay, height: u32, body: &[u8], votes: &[u8]) -> Replayed
     requires { ⌜ length (now votes) ≡ 3 * votingLength (s .settings) ⌝ }
     ensures { λ r. ⌜ r ≡ onParts s height (now (body .entry)) (now (votes .entry)) ⌝ }
 {
-    let e = early_refusal(s, height, body, votes);
+    let e = early_refusal(s, height, votes);
     if e != 0 {
         return refused(s, e);
+    }
+    let w = walk::walk_body(body);
+    let x = w.parsed;
+    let n = x.refusal;
+    if n != 0 {
+        return refused(s, n);
     }
     let g = s.settings;
     let t = s.table;
     let y = s.tally;
     let vote = boundary_votes(votes);
-    let update = body::extract_disabling_rules_from_kv(body);
-    let b = boundary::boundary_with_update(g, height, t, y, vote, update);
-    after_boundary(s, height, body, votes, b)
+    let start = w.start;
+    let end = w.end;
+    let b = boundary::boundary_with_update(g, height, t, y, vote, &body[start..end]);
+    let found = w.found;
+    after_boundary(s, height, votes, found, b)
 }
 
-// The height, all headers, the boundary header's fork check by the old table, the body.
-fn early_refusal(s: Replay, height: u32, body: &[u8], votes: &[u8]) -> u8
-    ensures { λ r. ⌜ r ≡ earlyRefusal s height (now (body .entry)) (now (votes .entry)) ⌝ }
+// The height, all headers, the boundary header's fork check by the old table.
+fn early_refusal(s: Replay, height: u32, votes: &[u8]) -> u8
+    ensures { λ r. ⌜ r ≡ earlyRefusal s height (now (votes .entry)) ⌝ }
 {
     let e = height_refusal(s, height);
     if e != 0 {
@@ -185,12 +192,7 @@ fn early_refusal(s: Replay, height: u32, body: &[u8], votes: &[u8]) -> u8
     }
     let g = s.settings;
     let t = s.table;
-    let h = boundary_refusal(g, t, height, votes);
-    if h != 0 {
-        return h;
-    }
-    let x = body::check_body(body);
-    x.refusal
+    boundary_refusal(g, t, height, votes)
 }
 
 fn height_refusal(s: Replay, height: u32) -> u8
@@ -236,18 +238,17 @@ fn other_refusal(config: VotingConfig, table: Table, height: u32, votes: &[u8]) 
     fork_votes::check_fork_votes(config, table, height, &votes[3..])
 }
 
-// After the boundary: the match.
-fn after_boundary(s: Replay, height: u32, body: &[u8], votes: &[u8], b: Computed) -> Replayed
+// After the boundary: the match with what was found in the body.
+fn after_boundary(s: Replay, height: u32, votes: &[u8], found: Table, b: Computed) -> Replayed
     requires { ⌜ (height + votingLength (s .settings) ≤ 2147483648) × (length (now votes) ≡ 3 * votingLength (s .settings)) ⌝ }
-    ensures { λ r. ⌜ r ≡ afterBoundary s height (now (body .entry)) (now (votes .entry)) b ⌝ }
+    ensures { λ r. ⌜ r ≡ gate s (b .refusal) (afterMatch s height (now (votes .entry)) (b .table) (matchFound (b .table) found)) ⌝ }
 {
     let e = b.refusal;
     if e != 0 {
         return refused(s, e);
     }
     let t = b.table;
-    let x = parameters::parse_parameters_from_kv(body);
-    let m = parameters::check_parameters_v6(t, x.map);
+    let m = walk::match_found(t, found);
     after_match(s, height, votes, t, m)
 }
 

@@ -163,7 +163,8 @@ fn fields_section(body: &[u8], count: u32, begin: usize) -> Parsed
     section::read(count, begin, at)
 }
 
-fn update_key(key0: u8, key1: u8) -> bool
+// Whether a key holds the proposed settings update.
+pub fn update_key(key0: u8, key1: u8) -> bool
     ensures { λ r. ⌜ r ≡ updateKey key0 key1 ⌝ }
 {
     (key0 == 0) & (key1 == ID_SOFT_FORK_DISABLING_RULES)
@@ -201,7 +202,8 @@ fn find_update(body: &[u8], fields: Section) -> Span
     Span { start: 0, end: 0 }
 }
 
-fn wrong_size(key0: u8, key1: u8, size: usize) -> bool
+// Whether a field is a parameter whose value is not four bytes.
+pub fn wrong_size(key0: u8, key1: u8, size: usize) -> bool
     ensures { λ r. ⌜ r ≡ wrongSize key0 key1 size ⌝ }
 {
     parameter_key(key0, key1) & (size != 4)

@@ -110,7 +110,8 @@ fn take_field(m: ParameterMap, key0: u8, key1: u8, v: &[u8]) -> ParameterMap
     m
 }
 
-fn number_in(a: u8, b: u8, c: u8, d: u8) -> Value
+// Four bytes as an entry, the most significant first.
+pub fn number_in(a: u8, b: u8, c: u8, d: u8) -> Value
     ensures { λ r. ⌜ r ≡ numberIn (a ∷ b ∷ c ∷ d ∷ []) ⌝ }
 {
     Value::Number(big_endian::i32_from_be_bytes([a, b, c, d]))
@@ -148,7 +149,7 @@ fn first_differing(expected: Table, parsed: ParameterMap) -> u8
 }
 
 // Whether a computed entry is missing or different; an absent one asks nothing.
-fn differs(computed: Value, found: Value) -> bool
+pub fn differs(computed: Value, found: Value) -> bool
     ensures { λ r. ⌜ r ≡ not (agrees computed found) ⌝ }
 {
     match computed {

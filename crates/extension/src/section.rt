@@ -21,7 +21,8 @@ pub(crate) struct Span {
     pub end: usize,
 }
 
-pub(crate) fn read(count: u32, begin: usize, end: usize) -> Parsed
+// Items that were all read.
+pub fn read(count: u32, begin: usize, end: usize) -> Parsed
     ensures { λ r. ⌜ r ≡ record { refusal = 0; section = section count begin end } ⌝ }
 {
     Parsed {
@@ -30,7 +31,8 @@ pub(crate) fn read(count: u32, begin: usize, end: usize) -> Parsed
     }
 }
 
-pub(crate) fn refused(refusal: u8) -> Parsed
+// A refusal, and no items.
+pub fn refused(refusal: u8) -> Parsed
     ensures { λ r. ⌜ r ≡ refusedSection refusal ⌝ }
 {
     Parsed {

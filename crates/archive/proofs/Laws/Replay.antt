@@ -23,11 +23,14 @@ use Rattle.voting.proofs.Laws.Tests.{both}
 use Rattle.rounds.specs.Epochs.{boundaryVotes}
 use Rattle.extension.specs.declared.boundary.Computed.{Computed}
 use Rattle.extension.specs.declared.parameters.Matched.{Matched}
-use Rattle.extension.specs.declared.parameters.Parameters.{Parameters}
 use Rattle.extension.specs.declared.section.Parsed.{Parsed}
+use Rattle.extension.specs.Section.{part}
 use Rattle.extension.specs.Body.{checkBody, proposedUpdate}
-use Rattle.extension.specs.Parameters.{parametersOf, checkParameters}
+use Rattle.extension.specs.Parameters.{parametersOf}
 use Rattle.extension.specs.Boundary.{computedOf}
+use Rattle.walk.specs.declared.Walked.{Walked}
+use Rattle.walk.specs.Walk.{WalkedIs, matchFound}
+use Rattle.walk.proofs.Laws.Match.{match-parameters}
 use Rattle.archive.specs.declared.record.RecordPlace.{RecordPlace}
 use Rattle.archive.specs.declared.record.RecordAt.{RecordAt}
 use Rattle.archive.specs.declared.record.RecordAt.the-variants.{Whole, Short, Malformed}
@@ -111,25 +114,24 @@ votes-one (a ∷ []) h v q = absurd (omega arith)
 votes-one (a ∷ b ∷ []) h v q = absurd (omega arith)
 votes-one (a ∷ b ∷ c ∷ votes) h v q = q
 
--- the first four tests
-module _ (s : Replay) (height : ℕ) (body votes : List ℕ) (e : ℕ) (is-e : e ≡ heightRefusal s height) where
-  pub early-height : (e ≡ 0 → ⊥) → e ≡ earlyRefusal s height body votes
+-- the first three tests
+module _ (s : Replay) (height : ℕ) (votes : List ℕ) (e : ℕ) (is-e : e ≡ heightRefusal s height) where
+  pub early-height : (e ≡ 0 → ⊥) → e ≡ earlyRefusal s height votes
   unfolding earlyRefusal
   early-height d = rw (← is-e) (sym (first-stop e _ d))
 
   module _ (z : e ≡ 0) (f : ℕ) (is-f : f ≡ checkHeaders votes) where
-    pub early-headers : (f ≡ 0 → ⊥) → f ≡ earlyRefusal s height body votes
+    pub early-headers : (f ≡ 0 → ⊥) → f ≡ earlyRefusal s height votes
     unfolding earlyRefusal
     early-headers d = rw (← is-e, ← is-f) (sym (first-pass e _ z ∙ first-stop f _ d))
 
-    module _ (y : f ≡ 0) (h : ℕ) (is-h : h ≡ checkForkVotes (s .settings) (s .table) height (take 3 votes)) where
-      pub early-boundary : (h ≡ 0 → ⊥) → h ≡ earlyRefusal s height body votes
-      unfolding earlyRefusal
-      early-boundary d = rw (← is-e, ← is-f, ← is-h) (sym (first-pass e _ z ∙ first-pass f _ y ∙ first-stop h _ d))
+    pub early-boundary : f ≡ 0 → (h : ℕ) → h ≡ checkForkVotes (s .settings) (s .table) height (take 3 votes) → h ≡ earlyRefusal s height votes
+    unfolding earlyRefusal
+    early-boundary y h is-h = rw (← is-e, ← is-f, ← is-h) (sym (first-pass e _ z ∙ first-pass f _ y))
 
-      pub early-body : h ≡ 0 → (x : Parsed) → x ≡ checkBody body → x .refusal ≡ earlyRefusal s height body votes
-      unfolding earlyRefusal
-      early-body w x is-x = rw (← is-e, ← is-f, ← is-h) (ap (λ (p : Parsed). p .refusal) is-x ∙ sym (first-pass e _ z ∙ first-pass f _ y ∙ first-pass h _ w))
+pub early-low : (s : Replay) (height : ℕ) (votes : List ℕ) (e : ℕ) → e ≡ earlyRefusal s height votes → e ≡ 0 → height + votingLength (s .settings) ≤ 2147483648
+unfolding earlyRefusal
+early-low s height votes e is-e z = height-low s height (first-zero (heightRefusal s height) _ (sym is-e ∙ z) .0)
 
 -- gates
 gate-first : (s : Replay) (n m : ℕ) (r : Replayed) → gate s n (gate s m r) ≡ gate s (first n m) r
@@ -151,36 +153,48 @@ module _ (s : Replay) (height : ℕ) (body votes : List ℕ) where
   abbrev later : Replayed
   later = afterBoundary s height body votes (computedOf (s .settings) height (s .table) (entries (s .tally)) (boundaryVotes votes) (proposedUpdate body))
 
-  in-order : gate s (earlyRefusal s height body votes) later ≡ onParts s height body votes
-  unfolding onParts earlyRefusal
-  in-order = sym (simp gate-first)
+  abbrev checked : Replayed
+  checked = gate s (checkBody body .refusal) later
 
-  module _ (e : ℕ) (is-e : e ≡ earlyRefusal s height body votes) where
+  in-order : gate s (earlyRefusal s height votes) checked ≡ onParts s height body votes
+  unfolding onParts earlyRefusal
+  in-order =
+      let headers-and-boundary = gate-first s (checkHeaders votes) (checkForkVotes (s .settings) (s .table) height (take 3 votes)) checked in
+      sym (ap (gate s (heightRefusal s height)) headers-and-boundary ∙ gate-first s (heightRefusal s height) _ checked)
+
+  module _ (e : ℕ) (is-e : e ≡ earlyRefusal s height votes) where
     pub parts-stop : (e ≡ 0 → ⊥) → refuses s e ≡ onParts s height body votes
-    parts-stop d = gate-stop s e (earlyRefusal s height body votes) later is-e d ∙ in-order
+    parts-stop d = gate-stop s e (earlyRefusal s height votes) checked is-e d ∙ in-order
 
     module _ (z : e ≡ 0) where
-      pub parts-low : height + votingLength (s .settings) ≤ 2147483648
-      unfolding earlyRefusal
-      parts-low = height-low s height (first-zero (heightRefusal s height) _ (sym is-e ∙ z) .0)
+      -- the body, by what was found in it
+      module _ (w : Walked) (is-w : WalkedIs body w) where
+        early : checked ≡ onParts s height body votes
+        early = gate-pass s e (earlyRefusal s height votes) checked is-e z ∙ in-order
 
-      pub parts-pass : (vote : Bool) → vote ≡ boundaryVotes votes → (up : List ℕ) → up ≡ proposedUpdate body
-          → (b : Computed) → b ≡ computedOf (s .settings) height (s .table) (entries (s .tally)) vote up → afterBoundary s height body votes b ≡ onParts s height body votes
-      parts-pass vote is-vote up is-up b is-b =
-          rw (is-b, is-vote, is-up) (gate-pass s e (earlyRefusal s height body votes) later is-e z ∙ in-order)
+        refusal-is : w .parsed .refusal ≡ checkBody body .refusal
+        refusal-is = ap (λ (x : Parsed). x .refusal) (is-w .parsed)
+
+        pub parts-body : (w .parsed .refusal ≡ 0 → ⊥) → refuses s (w .parsed .refusal) ≡ onParts s height body votes
+        parts-body d = gate-stop s _ _ later refusal-is d ∙ early
+
+        pub parts-pass : w .parsed .refusal ≡ 0 → (vote : Bool) → vote ≡ boundaryVotes votes
+            → (b : Computed) → b ≡ computedOf (s .settings) height (s .table) (entries (s .tally)) vote (part body (w .start) (w .end))
+            → gate s (b .refusal) (afterMatch s height votes (b .table) (matchFound (b .table) (w .found))) ≡ onParts s height body votes
+        unfolding afterBoundary
+        parts-pass y vote is-vote b is-b =
+            rw (is-w .found, match-parameters (b .table) (parametersOf body .map), is-b, is-vote, is-w .update .is) (gate-pass s _ _ later refusal-is y ∙ early)
 
 -- after the boundary, and after the match
-module _ (s : Replay) (height : ℕ) (body votes : List ℕ) (b : Computed) where
-  pub boundary-stop : (b .refusal ≡ 0 → ⊥) → refuses s (b .refusal) ≡ afterBoundary s height body votes b
-  unfolding afterBoundary
-  boundary-stop d = gate-stop s (b .refusal) (b .refusal) _ refl d
+module _ (s : Replay) (height : ℕ) (votes : List ℕ) (found : Table) (n : ℕ) (t : Table) where
+  abbrev matching : Replayed
+  matching = gate s n (afterMatch s height votes t (matchFound t found))
 
-  pub boundary-pass : b .refusal ≡ 0 → (x : Parameters) → x ≡ parametersOf body → (m : Matched) → m ≡ checkParameters (b .table) (x .map)
-      → afterMatch s height votes (b .table) m ≡ afterBoundary s height body votes b
-  unfolding afterBoundary
-  boundary-pass z x is-x m is-m =
-      ap (afterMatch s height votes (b .table)) (is-m ∙ ap (λ (y : Parameters). checkParameters (b .table) (y .map)) is-x)
-      ∙ gate-pass s (b .refusal) (b .refusal) _ refl z
+  pub boundary-stop : (n ≡ 0 → ⊥) → refuses s n ≡ matching
+  boundary-stop d = gate-stop s n n _ refl d
+
+  pub boundary-pass : n ≡ 0 → (m : Matched) → m ≡ matchFound t found → afterMatch s height votes t m ≡ matching
+  boundary-pass z m is-m = ap (afterMatch s height votes t) is-m ∙ gate-pass s n n _ refl z
 
 module _ (s : Replay) (height : ℕ) (votes : List ℕ) (t : Table) (m : Matched) where
   pub match-stop : (m .refusal ≡ 0 → ⊥) → record { verdict = Mismatch (m .id); state = s } ≡ afterMatch s height votes t m

@@ -81,15 +81,16 @@ module _ (t : Table) (m : ParameterMap) (k : ℕ) where
     differs-next e = rw (here, agrees-is, e)
 
 -- 15, by the id that was found
+pub matched-other : (n : ℕ) → (n ≡ 0 → ⊥) → _≡_ {A = Matched} (record { refusal = entryDiffers; id = n }) (matched n)
+unfolding matched
+matched-other zero d = absurd (d refl)
+matched-other (suc n) d = refl
+
 module _ (t : Table) (m : ParameterMap) (id : ℕ) (is-id : id ≡ firstDiffering t m tableIds) where
   pub matched-none : id ≡ 0 → record { refusal = 0; id = 0 } ≡ checkParameters t m
   unfolding checkParameters matched
   matched-none e = rw (← is-id, e)
 
   pub matched-some : (id ≡ 0 → ⊥) → record { refusal = entryDiffers; id = id } ≡ checkParameters t m
-  unfolding checkParameters matched
-  matched-some d = rw (← is-id) (go id d)
-    where
-      go : (n : ℕ) → (n ≡ 0 → ⊥) → _≡_ {A = Matched} (record { refusal = entryDiffers; id = n }) (matched n)
-      go zero d = absurd (d refl)
-      go (suc n) d = refl
+  unfolding checkParameters
+  matched-some d = rw (← is-id) (matched-other id d)

@@ -9,27 +9,17 @@ refused-requires : tie.Need-refused-requires
 refused-requires c κs = search needs
 
 returns : tie.Need-returns
-returns c = c .refused .ensures ∙ boundary-stop _ _ _ _ _ (c .before .if1 .taken)
+returns c = c .refused .ensures ∙ boundary-stop _ _ _ _ _ _ (c .before .if1 .taken)
 
-parse-parameters-from-kv-requires : tie.Need-parse-parameters-from-kv-requires
-parse-parameters-from-kv-requires c κs = search needs
-
-check-parameters-v6-requires : tie.Need-check-parameters-v6-requires
-check-parameters-v6-requires c κs = search needs
+match-found-requires : tie.Need-match-found-requires
+match-found-requires c κs = search needs
 
 after-match-requires : tie.Need-after-match-requires
 after-match-requires c κs = search needs
 
 returns-2 : tie.Need-returns-2
-returns-2 c = c .after-match .ensures ∙ boundary-pass _ _ _ _ _ (c .before .before .before .before .if1 .left) _ (c .before .before .parse-parameters-from-kv .ensures) _ (c .before .check-parameters-v6 .ensures .0)
+returns-2 c = c .after-match .ensures ∙ boundary-pass _ _ _ _ _ _ (c .before .before .before .if1 .left) _ (c .before .match-found .ensures)
 
 pub after-boundary-spec : {M : Type 1} → statement M
 after-boundary-spec =
-    tie.close
-    (tie.spec
-    refused-requires
-    returns
-    parse-parameters-from-kv-requires
-    check-parameters-v6-requires
-    after-match-requires
-    returns-2)
+    tie.close (tie.spec refused-requires returns match-found-requires after-match-requires returns-2)

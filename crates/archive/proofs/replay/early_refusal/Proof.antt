@@ -1,5 +1,5 @@
 -- `archive::replay::early_refusal` meets its contract. Assumes nothing.
-use Rattle.archive.proofs.Laws.Replay.{early-height, early-headers, early-boundary, early-body}
+use Rattle.archive.proofs.Laws.Replay.{early-height, early-headers, early-boundary}
 use borrow.Author.Needs.{needs}
 use Rattle.archive.proofs.replay.early_refusal.Statement.{statement}
 use Rattle.archive.proofs.replay.early_refusal.Tie as tie
@@ -8,25 +8,22 @@ height-refusal-requires : tie.Need-height-refusal-requires
 height-refusal-requires c κs = search needs
 
 returns : tie.Need-returns
-returns c = early-height _ _ _ _ _ (c .before .height-refusal .ensures) (c .if1 .taken)
+returns c = early-height _ _ _ _ (c .before .height-refusal .ensures) (c .if1 .taken)
 
 check-headers-requires : tie.Need-check-headers-requires
 check-headers-requires c κs = search needs
 
 returns-2 : tie.Need-returns-2
-returns-2 c = early-headers _ _ _ _ _ (c .before .before .before .height-refusal .ensures) (c .before .before .if1 .left) _ (c .before .check-headers .ensures) (c .if2 .taken)
+returns-2 c = early-headers _ _ _ _ (c .before .before .before .height-refusal .ensures) (c .before .before .if1 .left) _ (c .before .check-headers .ensures) (c .if2 .taken)
 
 boundary-refusal-requires : tie.Need-boundary-refusal-requires
 boundary-refusal-requires c κs = search needs
 
 returns-3 : tie.Need-returns-3
-returns-3 c = early-boundary _ _ _ _ _ (c .before .before .before .before .before .before .before .height-refusal .ensures) (c .before .before .before .before .before .before .if1 .left) _ (c .before .before .before .before .before .check-headers .ensures) (c .before .before .before .before .if2 .left) _ (c .before .boundary-refusal .ensures) (c .if3 .taken)
-
-check-body-requires : tie.Need-check-body-requires
-check-body-requires c κs = search needs
-
-returns-4 : tie.Need-returns-4
-returns-4 c = early-body _ _ _ _ _ (c .before .before .before .before .before .before .before .before .height-refusal .ensures) (c .before .before .before .before .before .before .before .if1 .left) _ (c .before .before .before .before .before .before .check-headers .ensures) (c .before .before .before .before .before .if2 .left) _ (c .before .before .boundary-refusal .ensures) (c .before .if3 .left) _ (c .check-body .ensures)
+returns-3 c =
+    let second = c .before .before .before in
+    let first = second .before .before in
+    early-boundary _ _ _ _ (first .before .height-refusal .ensures) (first .if1 .left) _ (second .before .check-headers .ensures) (second .if2 .left) _ (c .boundary-refusal .ensures)
 
 pub early-refusal-spec : {M : Type 1} → statement M
 early-refusal-spec =
@@ -37,6 +34,4 @@ early-refusal-spec =
     check-headers-requires
     returns-2
     boundary-refusal-requires
-    returns-3
-    check-body-requires
-    returns-4)
+    returns-3)
