@@ -1,2 +1,3 @@
+pub mod Survey
 pub mod Pack
 pub mod Encode

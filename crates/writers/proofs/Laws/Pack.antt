@@ -23,13 +23,14 @@ use Rattle.codec.specs.Output.{wrote, refused, writes, writing}
 use Rattle.codec.proofs.Laws.Output as output
 use Rattle.voting.specs.declared.table.Value.{Value}
 use Rattle.voting.specs.declared.table.Value.the-variants.{Absent, Number}
-use Rattle.extension.specs.declared.body.Survey.{Survey}
 use Rattle.extension.specs.declared.parameters.ParameterMap.{ParameterMap}
 use Rattle.extension.specs.Section.{Listing, done, stop, item, after, items, refusalOf, any}
 use Rattle.extension.specs.Body.{Field}
 use Rattle.extension.specs.Parameters.{entryOf}
-use Rattle.extension.specs.Pack.{wireList, wireFields, longValue, surveyed, surveyRefusal, packRefusal, packed}
+use Rattle.extension.specs.Pack.{wireList, wireFields, longValue, packRefusal, packed}
 use Rattle.extension.proofs.Laws.Pack.{sizeAt, fieldThere, wire-header-cut, wire-value-cut, wire-here, value-length, wire-none, wire-end, wire-stop, wire-item}
+use Rattle.writers.specs.declared.pack.Survey.{Survey}
+use Rattle.writers.specs.Survey.{surveyed, surveyRefusal}
 use Rattle.writers.specs.Pack.{packExtension, entryBytes, entriesFrom}
 
 -- the survey of a list of fields, after so many fields before it, of which one was long or none
@@ -87,7 +88,12 @@ module _ (s : List ℕ) (left at count : ℕ) (long : Bool) where
           survey-item count long (fieldThere s at) (wireList (left - 1) s (at + 3 + sizeAt s at)) ∙
           ap (λ (n : ℕ). surveyedOn (count + 1) (long || ltb 64 n) (wireList (left - 1) s (at + 3 + sizeAt s at))) (value-length s at i)
 
--- the refusal of a survey
+-- the refusal of a survey is the refusal of the list
+pub survey-refusal : (l : Listing Field) → surveyRefusal (surveyed l) ≡ packRefusal l
+unfolding surveyRefusal surveyed packRefusal
+survey-refusal l = refl
+
+-- the refusal of a survey, test by test
 module _ (w : Survey) where
   pub many-fields : 65536 < w .count → inputLong ≡ surveyRefusal w
   unfolding surveyRefusal
@@ -105,8 +111,7 @@ module _ (w : Survey) where
 -- a body's outcome, by the survey of its fields and the tests of the buffer's length
 module _ (id fields cells : List ℕ) {w : Survey} {e : ℕ} (is-w : w ≡ surveyed (wireFields fields)) (is-e : e ≡ surveyRefusal w) where
   is-refusal : e ≡ packRefusal (wireFields fields)
-  unfolding packRefusal
-  is-refusal = is-e ∙ ap surveyRefusal is-w
+  is-refusal = is-e ∙ ap surveyRefusal is-w ∙ survey-refusal (wireFields fields)
 
   pub pack-refused : (e ≡ 0 → ⊥) → refused e cells ≡ packExtension id fields cells
   unfolding packExtension

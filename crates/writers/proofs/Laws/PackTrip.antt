@@ -25,13 +25,12 @@ use Rattle.voting.specs.Table.{slot}
 use Rattle.voting.specs.declared.table.Value.{Value}
 use Rattle.voting.specs.declared.table.Value.the-variants.{Absent, Number}
 use Rattle.voting.proofs.Laws.Tests.{by-test, neither}
-use Rattle.extension.specs.declared.body.Survey.{Survey}
 use Rattle.extension.specs.declared.parameters.ParameterMap.{ParameterMap}
 use Rattle.extension.specs.Section.{bad, Listing, done, stop, item, listing, items, refusalOf, section, closed, sectionItems, any}
 use Rattle.extension.specs.Body.{Field, parameterKey, readField, fieldsFrom, extensionOf, fieldsOf, headerId}
 use Rattle.extension.specs.Parameters.{noParameters, entryOf, store, numberIn, taken, parametersIn}
 use Rattle.extension.proofs.Laws.Section.{listing-item}
-use Rattle.extension.specs.Pack.{wireAt, wireList, wireFields, longValue, surveyed, surveyRefusal, packRefusal, packed}
+use Rattle.extension.specs.Pack.{wireAt, wireList, wireFields, longValue, packRefusal, packed}
 use Rattle.extension.proofs.Laws.Pack.{sizeAt, fieldThere, wire-header-cut, wire-value-cut, wire-here, value-length, wire-none, wire-end, wire-stop, wire-item}
 use Rattle.extension.proofs.Laws.PackTrip.{field-here, size-there, field-there, Lists, wire-past, fine, Held, Sound}
 use Rattle.writers.specs.Pack.{PackedBack, entryBytes, entriesFrom, parameterBytes, ParametersBack}
@@ -119,19 +118,15 @@ module _ (body : List ℕ) (b : ℕ) where
       (rw sub-one (one-field at (wireList k s (at + 3 + sizeAt s at)) i (reads-wire k (at + 3 + sizeAt s at))))))
 
 -- what a list that is not refused has: at most 65,536 fields, no long value, and no cut
-accepted-survey : (w : Survey) → surveyRefusal w ≡ 0 → (w .count ≤ 65536) × (w .long ≡ false) × (w .cut ≡ 0)
-unfolding surveyRefusal
-accepted-survey w = go (ltb 65536 (w .count)) (w .long) refl refl
+accepted-fields : (l : Listing Field) → packRefusal l ≡ 0 → (length (items l) ≤ 65536) × (any longValue (items l) ≡ false) × (refusalOf l ≡ 0)
+unfolding packRefusal
+accepted-fields l = go (ltb 65536 (length (items l))) (any longValue (items l)) refl refl
   where
-    go : (s t : Bool) → ltb 65536 (w .count) ≡ s → w .long ≡ t → cond s inputLong (cond t writtenValueLong (w .cut)) ≡ 0
-        → (w .count ≤ 65536) × (w .long ≡ false) × (w .cut ≡ 0)
+    go : (s t : Bool) → ltb 65536 (length (items l)) ≡ s → any longValue (items l) ≡ t → cond s inputLong (cond t writtenValueLong (refusalOf l)) ≡ 0
+        → (length (items l) ≤ 65536) × (any longValue (items l) ≡ false) × (refusalOf l ≡ 0)
     go true t p q e = absurd (omega arith)
     go false true p q e = absurd (omega arith)
-    go false false p q e = (ltb-false 65536 (w .count) p, q, e)
-
-accepted-fields : (l : Listing Field) → packRefusal l ≡ 0 → (length (items l) ≤ 65536) × (any longValue (items l) ≡ false) × (refusalOf l ≡ 0)
-unfolding packRefusal surveyed
-accepted-fields l e = accepted-survey (surveyed l) e
+    go false false p q e = (ltb-false 65536 (length (items l)) p, q, e)
 
 -- a body that is an id, a count and a list of as many fields
 module _ (id fields : List ℕ) (l : length id ≡ 32) (ok : packRefusal (wireFields fields) ≡ 0) (room : length (packed id fields) ≤ 65536) where

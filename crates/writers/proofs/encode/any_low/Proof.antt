@@ -1,4 +1,4 @@
--- `extension::encode::any_low` meets its contract. Assumes nothing.
+-- `writers::encode::any_low` meets its contract. Assumes nothing.
 use Prim.Native.Nat.{_-_, _≤_}
 use mathlib.Core.Bool.{true, false, true≢false}
 use mathlib.Core.Path.{_≡_, sym, _∙_}

@@ -1,4 +1,4 @@
--- `extension::encode::encode_refusal` meets its contract. Assumes nothing.
+-- `writers::encode::encode_refusal` meets its contract. Assumes nothing.
 use native.Mathlib.Omega.{arith}
 use borrow.Author.Needs.{needs}
 use Rattle.writers.proofs.Laws.Encode.{many-rules, many-ids, many-codes, many-sizes, large-size, low-rule, codes-differ, sizes-differ, raw-differs}

@@ -1,4 +1,4 @@
--- `extension::encode::offset_of` meets its contract. Assumes nothing.
+-- `writers::encode::offset_of` meets its contract. Assumes nothing.
 use Rattle.writers.proofs.Laws.Encode.{offset-low, offset-fits, offset-cast, offset-is}
 use Rattle.writers.proofs.encode.offset_of.Statement.{statement}
 use Rattle.writers.proofs.encode.offset_of.Tie as tie

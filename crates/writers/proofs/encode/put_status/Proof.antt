@@ -1,4 +1,4 @@
--- `extension::encode::put_status` meets its contract. Assumes nothing.
+-- `writers::encode::put_status` meets its contract. Assumes nothing.
 use mathlib.Core.Path.{ap, sym, _∙_}
 use lib.ListN.{length}
 use mir.Syntax.{w16}

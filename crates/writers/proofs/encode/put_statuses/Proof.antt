@@ -1,4 +1,4 @@
--- `extension::encode::put_statuses` meets its contract. Assumes nothing.
+-- `writers::encode::put_statuses` meets its contract. Assumes nothing.
 use Prim.Native.Nat.{_+_, _-_, _≤_}
 use mathlib.Core.Path.{refl, _≡_, sym, _∙_}
 use native.Mathlib.Omega.{arith}

@@ -1,4 +1,4 @@
--- `extension::encode::status_size` meets its contract. Assumes nothing.
+-- `writers::encode::status_size` meets its contract. Assumes nothing.
 use mathlib.Core.Path.{ap, _∙_}
 use native.Mathlib.Omega.{arith}
 use mir.Syntax.{w16}

@@ -1,4 +1,4 @@
--- `extension::encode::statuses_size` meets its contract. Assumes nothing.
+-- `writers::encode::statuses_size` meets its contract. Assumes nothing.
 use Prim.Native.Nat.{_+_, _-_, _*_, _≤_}
 use mathlib.Core.Path.{_≡_}
 use native.Mathlib.Omega.{arith}

@@ -1,4 +1,4 @@
--- `extension::encode::total` meets its contract. Assumes nothing.
+-- `writers::encode::total` meets its contract. Assumes nothing.
 use Prim.Native.Nat.{_+_, _-_, _*_, _≤_}
 use mathlib.Core.Path.{_≡_}
 use native.Mathlib.Omega.{arith}

@@ -1,4 +1,4 @@
--- `extension::pack::pack_parameters_to_kv` meets its contract. Assumes nothing.
+-- `writers::pack::pack_parameters_to_kv` meets its contract. Assumes nothing.
 use borrow.Author.Needs.{needs}
 use Rattle.codec.proofs.Laws.Output.{short, done}
 use Rattle.extension.specs.Parameters.{entryOf}

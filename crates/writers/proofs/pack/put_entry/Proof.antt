@@ -1,4 +1,4 @@
--- `extension::pack::put_entry` meets its contract. Assumes nothing.
+-- `writers::pack::put_entry` meets its contract. Assumes nothing.
 use mathlib.Core.Path.{sym, ap, _∙_}
 use lib.Seq.{sets}
 use mir.Syntax.{w32}
