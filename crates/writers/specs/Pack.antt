@@ -13,8 +13,8 @@ use Rattle.voting.specs.declared.table.Value.{Value}
 use Rattle.voting.specs.declared.table.Value.the-variants.{Absent, Number}
 use Rattle.extension.specs.declared.parameters.ParameterMap.{ParameterMap}
 use Rattle.extension.specs.Section.{items}
-use Rattle.extension.specs.Body.{extensionOf, fieldsOf, headerId}
-use Rattle.extension.specs.Parameters.{noParameters, entryOf, parametersIn}
+use Rattle.extension.specs.Body.{extensionOf, fieldsOf, headerId, checkBody}
+use Rattle.extension.specs.Parameters.{entryOf, parametersOf}
 use Rattle.extension.specs.Pack.{wireFields, packRefusal, packed}
 
 unfoldable pub packExtension : List ℕ → List ℕ → List ℕ → Outcome
@@ -43,7 +43,9 @@ parameterBytes m = entriesFrom 256 128 m
 unfoldable pub packParameters : ParameterMap → List ℕ → Outcome
 packParameters m cells = writes (parameterBytes m) cells
 
--- the parameters that were written are a list of fields, and are read back
-pub record ParametersBack (m : ParameterMap) : Type 0 where
-  pub whole : packRefusal (wireFields (parameterBytes m)) ≡ 0
-  pub same : (id : ℕ) → id ≤ 255 → entryOf (parametersIn (items (wireFields (parameterBytes m))) noParameters) id ≡ cond (eqb id 124) Absent (entryOf m id)
+-- the body with these fields passes the body check, and has the parameters that were written
+pub record ParametersBack (m : ParameterMap) (header : List ℕ) : Type 0 where
+  pub packs : packRefusal (wireFields (parameterBytes m)) ≡ 0
+  pub checked : checkBody (packed header (parameterBytes m)) .refusal ≡ 0
+  pub read : parametersOf (packed header (parameterBytes m)) .refusal ≡ 0
+  pub same : (id : ℕ) → id ≤ 255 → entryOf (parametersOf (packed header (parameterBytes m)) .map) id ≡ cond (eqb id 124) Absent (entryOf m id)

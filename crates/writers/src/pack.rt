@@ -7,8 +7,9 @@ use codec::vlq;
 use extension::body;
 use extension::parameters::ParameterMap;
 use voting::table::Value;
-ghost use Prim.Native.Nat.{_≤_};
+ghost use Prim.Native.Nat.{ℕ, _≤_};
 ghost use mathlib.Core.Path.{_≡_};
+ghost use mathlib.Core.List.{List};
 ghost use lib.ListN.{length};
 ghost use lib.Seq.{sets};
 ghost use Rattle.codec.specs.Output.{outcome};
@@ -108,7 +109,7 @@ fn pack_refusal(w: Survey) -> u8
 // Writes parameters as fields, in the order of signed ids; 124 is dropped.
 pub fn pack_parameters_to_kv(params: ParameterMap, out: &mut [u8]) -> Wrote
     ensures { λ r. ⌜ outcome r (now (out .exit)) ≡ packParameters params (now (out .entry)) ⌝ }
-    ensures back { λ r. ⌜ ParametersBack params ⌝ }
+    ensures reads_back { λ r. ⌜ ((header : List ℕ) → length header ≡ 32 → ParametersBack params header) ⌝ }
 {
     let n = entries_size(params);
     if out.len() < n {

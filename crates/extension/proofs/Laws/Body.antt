@@ -88,6 +88,11 @@ field-inside s at f e = go (ltb (length s) (at + 3)) (ltb 64 (getD s (at + 2) 0)
           second-key = eb;
         }
 
+-- the body check, for every law that needs its definition
+pub check-body-by : (s : List ℕ) → checkBody s ≡ cond (any wrongParameter (fieldsOf s)) (refusedSection parameterSize) (extensionOf s)
+unfolding checkBody
+check-body-by s = refl
+
 -- a body, by its tests in order
 module _ (s : List ℕ) where
   pub body-long : 65536 < length s → refusedSection inputLong ≡ extensionOf s
@@ -149,12 +154,10 @@ module _ (s : List ℕ) (x : Parsed) (is-x : x ≡ extensionOf s) where
     wrong-is = is-w ∙ ap (λ (y : Parsed). any wrongParameter (sectionItems (readField s) (y .section))) is-x
 
     pub check-wrong : w ≡ true → refusedSection parameterSize ≡ checkBody s
-    unfolding checkBody
-    check-wrong t = rw (← wrong-is, t)
+    check-wrong t = rw (check-body-by s, ← wrong-is, t)
 
     pub check-right : w ≡ false → x ≡ checkBody s
-    unfolding checkBody
-    check-right t = rw (← wrong-is, t) is-x
+    check-right t = rw (check-body-by s, ← wrong-is, t) is-x
 
 -- a position of a body
 module _ (s : List ℕ) (at : ℕ) where

@@ -29,6 +29,7 @@ use Rattle.extension.specs.Body.{Field, fieldAt, fieldReading, readField
 use Rattle.extension.specs.Mandatory.{mandatoryRule}
 use Rattle.extension.specs.Update.{Status, placedRule, ruleAt, ruleReading, readRule, placedStatus, offsetThen, statusAt, statusReading, readStatus, countIn, itemsFrom, noUpdate, refusedUpdate, withStatuses, withRules, updateOf, disables}
 use Rattle.extension.specs.Boundary.{activates, withUpdate, computedOf}
+use Rattle.extension.proofs.Laws.Body.{check-body-by}
 
 -- a list of items, by the refusals of one
 abbrev Unlike : {A : Type 0} → Reading A → Type 0
@@ -61,8 +62,8 @@ fields-other body Unreadable = refl
 fields-other body (Value m) = listing-other (readField body) (field-other body) (m .value) (m .value) (m .next) (m .next)
 
 pub body-other : (body : List ℕ) → Other (checkBody body .refusal)
-unfolding checkBody extensionOf
-body-other body = go (any wrongParameter (fieldsOf body)) (ltb 65536 (length body)) (ltb (length body) 32)
+unfolding extensionOf
+body-other body = rw (check-body-by body) (go (any wrongParameter (fieldsOf body)) (ltb 65536 (length body)) (ltb (length body) 32))
   where
     go : (a b c : Bool)
         → Other (cond a (refusedSection parameterSize) (cond b (refusedSection inputLong) (cond c (refusedSection bodyShort) (fieldsFrom body (vlqAt 32 body 32)))) .refusal)

@@ -3,7 +3,7 @@
 use mathlib.Core.Path.{_≡_, refl, sym, ap, _∙_}
 use mathlib.Core.Bool.{Bool, true, false, cond, _||_}
 use mathlib.Core.List.{List, [], _∷_, _++_}
-use Prim.Native.Nat.{ℕ, zero, suc, _+_, _-_, _%_, _≤_, _<_}
+use Prim.Native.Nat.{ℕ, zero, suc, _+_, _-_, _*_, _%_, _≤_, _<_}
 use native.Mathlib.Nat.{add-zero, zero-add}
 use native.Mathlib.Numerals.{sub-one}
 use native.Mathlib.Omega.{arith}
@@ -180,6 +180,15 @@ module _ (id : ℕ) where
       go : (t : Bool) → length (cond t [] (0 ∷ id ∷ 4 ∷ bigEndianBytes 4 (bitsOf 32 x))) ≤ 7
       go true = omega arith
       go false = omega arith
+
+-- n parameters have at most seven bytes each
+pub entries-most : (m : ParameterMap) (n id : ℕ) → length (entriesFrom n id m) ≤ 7 * n
+unfolding entriesFrom
+entries-most m zero id = omega arith
+entries-most m (suc n) id =
+    let next = (id + 1) % 256 in
+    let e = length-append (entryBytes id (entryOf m id)) (entriesFrom n next m) in
+    omega (arith, e, entry-most id (entryOf m id), entries-most m n next)
 
 -- the parameters from one id on, n of them: none, or one and then the others
 module _ (m : ParameterMap) (n id : ℕ) where

@@ -2,7 +2,7 @@
 -- read back.
 -- Assumes nothing.
 use mathlib.Core.Path.{_≡_, refl, sym, ap, _∙_, subst, subst⁻¹}
-use mathlib.Core.Bool.{Bool, true, false, cond}
+use mathlib.Core.Bool.{Bool, true, false, not, cond, _&&_, _||_}
 use mathlib.Core.List.{List, [], _∷_, _++_}
 use Prim.Native.Nat.{ℕ, zero, suc, _+_, _-_, _%_, _≤_, _<_}
 use native.Mathlib.Nat.{add-zero}
@@ -20,20 +20,22 @@ use Rattle.codec.specs.Vlq.{vlqBytes}
 use Rattle.codec.specs.Signed.{bitsOf}
 use Rattle.codec.specs.BigEndian.{bigEndianBytes}
 use Rattle.codec.proofs.Laws.BigEndian.{bytes-length, number-back}
-use Rattle.codec.proofs.Laws.VlqTrip.{written-read-at}
+use Rattle.codec.proofs.Laws.VlqTrip.{written-read-at, at-most-ten}
 use Rattle.voting.specs.Table.{slot}
 use Rattle.voting.specs.declared.table.Value.{Value}
 use Rattle.voting.specs.declared.table.Value.the-variants.{Absent, Number}
 use Rattle.voting.proofs.Laws.Tests.{by-test, neither}
 use Rattle.extension.specs.declared.parameters.ParameterMap.{ParameterMap}
 use Rattle.extension.specs.Section.{bad, Listing, done, stop, item, listing, items, refusalOf, section, closed, sectionItems, any}
-use Rattle.extension.specs.Body.{Field, parameterKey, readField, fieldsFrom, extensionOf, fieldsOf, headerId}
-use Rattle.extension.specs.Parameters.{noParameters, entryOf, store, numberIn, taken, parametersIn}
+use Rattle.extension.specs.Body.{Field, parameterKey, readField, fieldsFrom, extensionOf, fieldsOf, headerId, wrongSize, wrongParameter, checkBody}
+use Rattle.extension.specs.Parameters.{noParameters, entryOf, store, numberIn, taken, parametersIn, readParameters, parametersOf}
 use Rattle.extension.proofs.Laws.Section.{listing-item}
+use Rattle.extension.proofs.Laws.Body.{check-body-by}
 use Rattle.extension.specs.Pack.{wireAt, wireList, wireFields, longValue, packRefusal, packed}
 use Rattle.extension.proofs.Laws.Pack.{sizeAt, fieldThere, wire-header-cut, wire-value-cut, wire-here, value-length, wire-none, wire-end, wire-stop, wire-item}
 use Rattle.extension.proofs.Laws.PackTrip.{field-here, size-there, field-there, Lists, wire-past, fine, Held, Sound}
 use Rattle.writers.specs.Pack.{PackedBack, entryBytes, entriesFrom, parameterBytes, ParametersBack}
+use Rattle.writers.proofs.Laws.Pack.{entries-most}
 
 -- a listing that ends with no refusal; and a listing with its last position further on by b
 abbrev Whole : Listing Field → Type 0
@@ -362,10 +364,66 @@ no-length : length (noParameters .entries) ≡ 256
 unfolding noParameters
 no-length = length-replicate 256 (slot Absent)
 
-pub parameters-back : (m : ParameterMap) → Sound m → ParametersBack m
-parameters-back m held = record {
-  whole = fine (wireFields (parameterBytes m)) (fieldsFor 256 128 m) (parameters-listed m) (omega (arith, all-once m 256 128)) (all-short m 256 128);
-  same = λ id h.
-      ap (λ (fs : List Field). entryOf (parametersIn fs noParameters) id) (parameters-listed m .0) ∙
-      reached m held id (omega arith) 256 128 noParameters (omega arith) (omega arith) (omega arith) no-length (no-entry id (omega arith));
-}
+-- the parameters that were written are a list of fields, and taken into the map they are the parameters without 124
+parameters-pack : (m : ParameterMap) → packRefusal (wireFields (parameterBytes m)) ≡ 0
+parameters-pack m = fine (wireFields (parameterBytes m)) (fieldsFor 256 128 m) (parameters-listed m) (omega (arith, all-once m 256 128)) (all-short m 256 128)
+
+parameters-taken : (m : ParameterMap) → Sound m → (id : ℕ) → id ≤ 255 → entryOf (parametersIn (fieldsFor 256 128 m) noParameters) id ≡ cond (eqb id 124) Absent (entryOf m id)
+parameters-taken m held id h = reached m held id (omega arith) 256 128 noParameters (omega arith) (omega arith) (omega arith) no-length (no-entry id (omega arith))
+
+-- every one of them has four bytes
+entry-right : (id : ℕ) (v : Value) (fs : List Field) → any wrongParameter fs ≡ false → any wrongParameter (entryFields id v ++ fs) ≡ false
+unfolding any wrongParameter wrongSize parameterKey bigEndianBytes
+entry-right id Absent fs e = e
+entry-right id (Number z) fs e = go (eqb id 124)
+  where
+    none : (t : Bool) → (not t && false) || any wrongParameter fs ≡ false
+    none true = e
+    none false = e
+
+    go : (t : Bool) → any wrongParameter (cond t [] (entryField id z ∷ []) ++ fs) ≡ false
+    go true = e
+    go false = none (eqb id 124)
+
+all-right : (m : ParameterMap) (n id : ℕ) → any wrongParameter (fieldsFor n id m) ≡ false
+unfolding fieldsFor any
+all-right m zero id = refl
+all-right m (suc n) id = entry-right id (entryOf m id) (fieldsFor n ((id + 1) % 256) m) (all-right m n ((id + 1) % 256))
+
+-- the body with these fields: it is not too long, passes the check, and its fields are the parameters
+module _ (m : ParameterMap) (header : List ℕ) (l : length header ≡ 32) where
+  abbrev body : List ℕ
+  body = packed header (parameterBytes m)
+
+  body-room : length body ≤ 65536
+  unfolding packed parameterBytes
+  body-room =
+      let many = length (items (wireFields (parameterBytes m))) in
+      let e₁ = length-append (header ++ vlqBytes many) (parameterBytes m) in
+      let e₂ = length-append header (vlqBytes many) in
+      omega (arith, e₁, e₂, at-most-ten many, entries-most m 256 128)
+
+  body-back : PackedBack header (parameterBytes m)
+  body-back = packed-back header (parameterBytes m) l (parameters-pack m) body-room
+
+  body-fields : fieldsOf body ≡ fieldsFor 256 128 m
+  body-fields = body-back .same-fields ∙ parameters-listed m .0
+
+  body-checked : checkBody body ≡ extensionOf body
+  body-checked = check-body-by body ∙ rw (body-fields, all-right m 256 128)
+
+  body-map : parametersOf body .map ≡ parametersIn (fieldsFor 256 128 m) noParameters
+  unfolding parametersOf readParameters fieldsOf
+  body-map = rw body-checked (ap (λ (fs : List Field). parametersIn fs noParameters) body-fields)
+
+  body-read : parametersOf body .refusal ≡ 0
+  unfolding parametersOf readParameters
+  body-read = rw body-checked (body-back .parsed)
+
+  pub parameters-back : Sound m → ParametersBack m header
+  parameters-back held = record {
+    packs = parameters-pack m;
+    checked = rw body-checked (body-back .parsed);
+    read = body-read;
+    same = λ id h. rw body-map (parameters-taken m held id h);
+  }
