@@ -1,4 +1,7 @@
+pub mod Sizes
+pub mod Fields
 pub mod Pack
 pub mod PackTrip
+pub mod FieldsTrip
 pub mod Encode
 pub mod EncodeTrip

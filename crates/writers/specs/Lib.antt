@@ -1,3 +1,4 @@
 pub mod Survey
 pub mod Pack
+pub mod Fields
 pub mod Encode

@@ -1,4 +1,5 @@
 // Settings updates written. docs/RULES.md, "Settings update" and "Writers and rest".
+use crate::sizes;
 use codec::output;
 use codec::output::Wrote;
 use codec::refusal;
@@ -7,7 +8,6 @@ use codec::rule::RuleId;
 use codec::vlq;
 ghost use mathlib.Core.Path.{_≡_};
 ghost use lib.ListN.{length};
-ghost use lib.Dec.{ltb};
 ghost use lib.IntN.{pos};
 ghost use lib.Signed.{ltZ};
 ghost use mathlib.Core.Bool.{true, false};
@@ -18,7 +18,7 @@ ghost use lib.Seq.{sets};
 ghost use Prim.Native.Nat.{_+_, _≤_};
 ghost use Rattle.codec.specs.Output.{outcome};
 ghost use Rattle.extension.specs.Section.{any};
-ghost use Rattle.extension.specs.Encode.{rulesBytes, statusBytes, statusesBytes, statusList, sum, agree, lowRule, encodeRefusal};
+ghost use Rattle.extension.specs.Encode.{rulesBytes, statusBytes, statusesBytes, statusList, agree, lowRule, encodeRefusal};
 ghost use Rattle.writers.specs.Encode.{statusesSize, encodeUpdate, encodeRules, EncodedAgain};
 
 // The most rules and the most statuses that are written, and the most bytes of one status.
@@ -97,7 +97,7 @@ fn encode_refusal(rules: &[u16], ids: &[i16], codes: &[u8], sizes: &[u32], raw: 
     if ITEMS_MOST < sizes.len() {
         return refusal::INPUT_LONG;
     }
-    if any_large(sizes) {
+    if sizes::any_above(sizes, RAW_MOST) {
         return refusal::INPUT_LONG;
     }
     if any_low(ids) {
@@ -109,23 +109,10 @@ fn encode_refusal(rules: &[u16], ids: &[i16], codes: &[u8], sizes: &[u32], raw: 
     if sizes.len() != ids.len() {
         return refusal::UPDATE_UNREADABLE;
     }
-    if total(sizes) != raw.len() as u64 {
+    if !sizes::sum_is(sizes, raw.len()) {
         return refusal::UPDATE_UNREADABLE;
     }
     0
-}
-
-fn any_large(sizes: &[u32]) -> bool
-    ensures { λ r. ⌜ r ≡ any (ltb 65535) (now (sizes .entry)) ⌝ }
-{
-    let mut i: usize = 0;
-    while i < sizes.len() {
-        if RAW_MOST < sizes[i] {
-            return true;
-        }
-        i += 1;
-    }
-    false
 }
 
 // fit: an id of 16 bits is not above 32,767.
@@ -141,19 +128,6 @@ fn any_low(ids: &[i16]) -> bool
         i += 1;
     }
     false
-}
-
-fn total(sizes: &[u32]) -> u64
-    requires { ⌜ length (now sizes) ≤ 65536 ⌝ }
-    ensures { λ r. ⌜ r ≡ sum (now (sizes .entry)) ⌝ }
-{
-    let mut n: u64 = 0;
-    let mut i: usize = 0;
-    while i < sizes.len() {
-        n += sizes[i] as u64;
-        i += 1;
-    }
-    n
 }
 
 fn rules_size(rules: &[u16]) -> usize

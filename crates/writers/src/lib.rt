@@ -1,3 +1,5 @@
-// Bodies, parameters and settings updates written.
+// Bodies, fields, parameters and settings updates written.
 pub mod encode;
+pub mod fields;
 pub mod pack;
+mod sizes;

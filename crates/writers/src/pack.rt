@@ -18,7 +18,7 @@ ghost use Rattle.writers.specs.Survey.{surveyed, surveyRefusal};
 ghost use Rattle.writers.specs.Pack.{packExtension, PackedBack, entryBytes, parameterBytes, packParameters, ParametersBack};
 
 // The most fields that are written.
-const FIELDS_MOST: usize = 65536;
+pub const FIELDS_MOST: usize = 65536;
 
 // A list of fields, walked to its end or to where it is cut: how many fields, whether one has a long value, and 3, 5 or 0.
 struct Survey {

@@ -6,7 +6,7 @@ use native.Mathlib.Omega.{arith}
 use borrow.Author.Tests.{le-ltb}
 use lib.IntN.{ℤ, pos, negsuc}
 use mir.Syntax.{w16}
-use mir.Val.{SFits, Fits, ofZ}
+use mir.Val.{SFits}
 use mir.ValLaws.{toZ-fits}
 use Rattle.codec.specs.Signed.{modulo, bitsOf, signedOf, wrapped}
 use Rattle.codec.specs.Rule.{ruleOf, offsetOf}

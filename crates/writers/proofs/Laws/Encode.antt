@@ -7,7 +7,7 @@ use Prim.Native.Nat.{ℕ, suc, _+_, _-_, _^_, _≤_, _<_}
 use native.Mathlib.Nat.{zero-add}
 use native.Mathlib.Numerals.{add-one}
 use native.Mathlib.Omega.{arith}
-use borrow.Author.Tests.{lt-ltb, le-ltb, ltb-true, ltb-false, eq-eqb, ne-eqb, eqb-true}
+use borrow.Author.Tests.{lt-ltb, le-ltb, ltb-false, eq-eqb, ne-eqb, eqb-true}
 use lib.Dec.{ltb, eqb}
 use lib.IntN.{ℤ, pos, negsuc}
 use lib.Signed.{ltZ}
@@ -25,23 +25,10 @@ use Rattle.codec.proofs.Laws.VlqTrip.{at-most-ten}
 use Rattle.voting.proofs.Laws.Tests.{both, neither}
 use Rattle.extension.specs.Section.{any}
 use Rattle.extension.specs.Update.{Status}
-use Rattle.extension.proofs.Laws.Section.{any-here, any-next}
 use Rattle.extension.specs.Encode.{rulesBytes, statusBytes, statusesBytes, encoded, statusList, sum, agree, lowRule, tooLarge, encodeRefusal}
 use Rattle.extension.proofs.Laws.Encode.{large-is}
 use Rattle.writers.specs.Encode.{statusesSize, encodeUpdate, encodeRules}
-
--- an element that passes a test, from a position on
-module _ {A : Type 0} (p : A → Bool) (xs : List A) (i : ℕ) where
-  pub any-end : length xs ≤ i → any p (drop i xs) ≡ false
-  unfolding any
-  any-end h = rw (drop-of-length-le xs h)
-
-  module _ (d : A) (h : i < length xs) where
-    pub any-found : p (getD xs i d) ≡ true → any p (drop i xs) ≡ true
-    any-found e = rw (drop-cons xs i d h) (any-here p (getD xs i d) (drop (suc i) xs) e)
-
-    pub any-past : p (getD xs i d) ≡ false → any p (drop i xs) ≡ any p (drop (i + 1) xs)
-    any-past e = rw (drop-cons xs i d h, add-one) (any-next p (getD xs i d) (drop (suc i) xs) e)
+use Rattle.writers.proofs.Laws.Sizes.{sum-here}
 
 -- the test of one rule id
 pub low-test : (id : ℤ) (b : Bool) → SFits w16 id → ltZ (toZ w16 (ofZ w16 id)) (pos 1000) ≡ b → lowRule id ≡ b
@@ -52,16 +39,6 @@ low-test id b f e = ap (λ (z : ℤ). ltZ z (pos 1000)) (sym (toZ-ofZ w16 id f))
 pub not-high : (id : ℤ) → SFits w16 id → ltZ (pos 32767) id ≡ false
 not-high (pos n) f = le-ltb 32767 n (omega (arith, f .sfits))
 not-high (negsuc n) f = refl
-
--- the sum of the sizes, from a position on
-module _ (ns : List ℕ) (i : ℕ) where
-  pub sum-end : length ns ≤ i → sum (drop i ns) ≡ 0
-  unfolding sum
-  sum-end h = rw (drop-of-length-le ns h)
-
-  pub sum-here : i < length ns → sum (drop i ns) ≡ getD ns i 0 + sum (drop (i + 1) ns)
-  unfolding sum
-  sum-here h = rw (drop-cons ns i 0 h, add-one)
 
 -- the rules, from a position on
 module _ (rules : List ℕ) (i : ℕ) where

@@ -3,14 +3,14 @@
 use mathlib.Core.Path.{_≡_, refl, ap, sym, _∙_}
 use mathlib.Core.Bool.{false}
 use mathlib.Core.List.{List, [], _∷_, _++_, append-nil, append-assoc}
-use Prim.Native.Nat.{ℕ, zero, suc, _+_, _-_, _^_, _≤_, _<_}
+use Prim.Native.Nat.{ℕ, suc, _+_, _-_, _^_, _≤_, _<_}
 use native.Mathlib.Nat.{add-zero}
 use native.Mathlib.Omega.{arith}
 use borrow.Author.Tests.{lt-ltb, le-ltb, ltb-false, ne-eqb}
 use lib.Dec.{ltb}
 use lib.IntN.{ℤ, pos, negsuc}
 use lib.Signed.{ltZ}
-use lib.ListN.{length, take, drop, getD, length-append, length-drop}
+use lib.ListN.{length, drop, getD, length-append, length-drop}
 use lib.Seq.{take-append-seam, getD-drop}
 use mir.Syntax.{w16}
 use mir.Val.{SFits}
@@ -29,6 +29,7 @@ use Rattle.extension.specs.Update.{Status, placedRule, ruleAt, ruleReading, rea
 use Rattle.extension.proofs.Laws.Parts.{drop-past}
 use Rattle.extension.specs.Encode.{rulesBytes, statusBytes, statusesBytes, encoded, statusList, lowRule, encodeRefusal}
 use Rattle.writers.specs.Encode.{EncodedAgain}
+use Rattle.writers.proofs.Laws.Sizes.{take-most}
 use Rattle.writers.proofs.Laws.Encode.{status-length, agreed, statuses-count, accepted}
 
 -- items that were all read, up to an end
@@ -199,11 +200,6 @@ module _ (rules : List ℕ) (statuses : List Status) (small : Each (λ r. r < 65
 each-small : (xs : List ℕ) → ((i : ℕ) → getD xs i 0 < 65536) → Each (λ r. r < 65536) xs
 each-small [] h = tt
 each-small (x ∷ xs) h = (h 0, each-small xs (λ i. h (suc i)))
-
-take-most : (n : ℕ) (xs : List ℕ) → length (take n xs) ≤ n
-take-most zero xs = omega arith
-take-most (suc n) [] = omega arith
-take-most (suc n) (x ∷ xs) = omega (arith, take-most n xs)
 
 statuses-fit : (ids : List ℤ) (codes sizes raw : List ℕ) → any lowRule ids ≡ false → any (ltZ (pos 32767)) ids ≡ false → any (ltb 65535) sizes ≡ false
     → Each Writable (statusList ids codes sizes raw)

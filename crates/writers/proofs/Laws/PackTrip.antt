@@ -1,7 +1,7 @@
 -- Bodies and parameters there and back: a packed body is read as the fields that were handed over, and parameters that were written are
 -- read back.
 -- Assumes nothing.
-use mathlib.Core.Path.{_≡_, refl, sym, ap, _∙_, subst, subst⁻¹}
+use mathlib.Core.Path.{_≡_, refl, ap, _∙_, subst, subst⁻¹}
 use mathlib.Core.Bool.{Bool, true, false, not, cond, _&&_, _||_}
 use mathlib.Core.List.{List, [], _∷_, _++_}
 use Prim.Native.Nat.{ℕ, zero, suc, _+_, _-_, _%_, _≤_, _<_}
@@ -14,7 +14,7 @@ use borrow.Author.Tests.{le-ltb, ltb-true, ltb-false, leb-true, leb-false, eqb-t
 use lib.Dec.{ltb, leb, eqb}
 use lib.IntN.{ℤ}
 use lib.ListN.{length, getD, drop, length-drop, length-append, length-set, length-replicate, getD-replicate}
-use lib.Seq.{getD-drop, getD-set-same, getD-set-other, drop-drop, take-at, drop-at, take-append-le, drop-append-le}
+use lib.Seq.{getD-set-same, getD-set-other, take-at, drop-at, take-append-le, drop-append-le}
 use Rattle.codec.specs.Refusal.{fieldHeaderCut, valueCut, inputLong, writtenValueLong}
 use Rattle.codec.specs.Vlq.{vlqBytes}
 use Rattle.codec.specs.Signed.{bitsOf}
@@ -33,8 +33,10 @@ use Rattle.extension.proofs.Laws.Section.{listing-item}
 use Rattle.extension.proofs.Laws.Body.{check-body-by}
 use Rattle.extension.specs.Pack.{wireAt, wireList, wireFields, longValue, packRefusal, packed}
 use Rattle.extension.proofs.Laws.Pack.{sizeAt, fieldThere, wire-header-cut, wire-value-cut, wire-here, value-length, wire-none, wire-end, wire-stop, wire-item}
-use Rattle.extension.proofs.Laws.PackTrip.{field-here, size-there, field-there, Lists, wire-past, fine, Held, Sound}
+use Rattle.extension.proofs.Laws.PackTrip.{field-here, size-there, field-there, Lists, fine, Held, Sound}
 use Rattle.writers.specs.Pack.{PackedBack, entryBytes, entriesFrom, parameterBytes, ParametersBack}
+use Rattle.writers.specs.Fields.{fieldBytes, fieldsBytes}
+use Rattle.writers.proofs.Laws.Fields.{fields-listed}
 use Rattle.writers.proofs.Laws.Pack.{entries-most}
 
 -- a listing that ends with no refusal; and a listing with its last position further on by b
@@ -217,71 +219,26 @@ unfolding fieldsFor
 all-once m zero id = omega arith
 all-once m (suc n) id = omega (arith, entry-once id (entryOf m id) (fieldsFor n ((id + 1) % 256) m), all-once m n ((id + 1) % 256))
 
--- one parameter's bytes at a position, and the list that goes on behind them
-module _ (s : List ℕ) (at id : ℕ) (z : ℤ) (rest : List ℕ) (here : drop at s ≡ (0 ∷ id ∷ 4 ∷ bigEndianBytes 4 (bitsOf 32 z)) ++ rest) where
-  entry-size : sizeAt s at ≡ 4
-  entry-size = sym (getD-drop at s 2 0) ∙ rw here
+-- the bytes of parameters are the bytes of these fields
+entry-is : (id : ℕ) (v : Value) (fs : List Field) → entryBytes id v ++ fieldsBytes fs ≡ fieldsBytes (entryFields id v ++ fs)
+unfolding entryBytes fieldsBytes fieldBytes bigEndianBytes
+entry-is id Absent fs = refl
+entry-is id (Number z) fs = go (eqb id 124)
+  where
+    go : (t : Bool) → cond t [] (0 ∷ id ∷ 4 ∷ bigEndianBytes 4 (bitsOf 32 z)) ++ fieldsBytes fs ≡ fieldsBytes (cond t [] (entryField id z ∷ []) ++ fs)
+    go true = refl
+    go false = refl
 
-  entry-read : fieldThere s at ≡ entryField id z
-  unfolding bigEndianBytes
-  entry-read =
-      let k0 : getD s at 0 ≡ 0 = ap (λ (i : ℕ). getD s i 0) (sym (add-zero at)) ∙ sym (getD-drop at s 0 0) ∙ rw here in
-      let k1 : getD s (at + 1) 0 ≡ id = sym (getD-drop at s 1 0) ∙ rw here in
-      let v : drop (at + 3) s ≡ bigEndianBytes 4 (bitsOf 32 z) ++ rest = sym (drop-drop 3 at s) ∙ rw here in
-      let i : at + 3 + 4 - (at + 3) ≡ 4 = omega arith in
-      rw (k0, k1, entry-size, i, v)
-
-  entry-rest : drop (at + 7) s ≡ rest
-  unfolding bigEndianBytes
-  entry-rest = sym (drop-drop 7 at s) ∙ rw here
-
-  entry-room : at + 7 ≤ length s
-  unfolding bigEndianBytes
-  entry-room =
-      let e : length (drop at s) ≡ 7 + length rest = rw here (omega arith) in
-      omega (arith, length-drop at s, e)
-
-  wire-entry : (k : ℕ) (fs : List Field) → length s ≤ at + suc k → Lists fs (wireList k s (at + 7)) → Lists (entryField id z ∷ fs) (wireList (suc k) s at)
-  unfolding items refusalOf
-  wire-entry k fs h r =
-      let n : at + 3 + sizeAt s at ≡ at + 7 = omega (arith, entry-size) in
-      let w = wire-here s at (omega (arith, entry-size, entry-room)) in
-      subst⁻¹ (Lists (entryField id z ∷ fs))
-      (wire-item s (suc k) at (omega arith) (omega (arith, entry-room)) (entryField id z) (at + 7) (w ∙ rw (entry-read, n)))
-      (rw sub-one (ap (λ (gs : List Field). entryField id z ∷ gs) (r .0), r .1))
-
--- the bytes of one parameter or none, then bytes that are read as fields
-module _ (s : List ℕ) (at id : ℕ) (rest : List ℕ) (fs : List Field) where
-  abbrev Follow : ℕ → ℕ → Type 0
-  Follow k at = drop at s ≡ rest → length s ≤ at + k → Lists fs (wireList k s at)
-
-  one-more : (z : ℤ) (k : ℕ) → drop at s ≡ (0 ∷ id ∷ 4 ∷ bigEndianBytes 4 (bitsOf 32 z)) ++ rest → length s ≤ at + k → ((j : ℕ) → Follow j (at + 7))
-      → Lists (entryField id z ∷ fs) (wireList k s at)
-  one-more z zero e h g = absurd (omega (arith, entry-room s at id z rest e))
-  one-more z (suc k) e h g = wire-entry s at id z rest e k fs h (g k (entry-rest s at id z rest e) (omega arith))
-
-  after-entry : (v : Value) (k : ℕ) → drop at s ≡ entryBytes id v ++ rest → length s ≤ at + k → Follow k at → ((j : ℕ) → Follow j (at + 7)) → Lists (entryFields id v ++ fs) (wireList k s at)
-  unfolding entryBytes
-  after-entry Absent k e h f g = f e h
-  after-entry (Number z) k e h f g = go (eqb id 124) e
-    where
-      go : (t : Bool) → drop at s ≡ cond t [] (0 ∷ id ∷ 4 ∷ bigEndianBytes 4 (bitsOf 32 z)) ++ rest → Lists (cond t [] (entryField id z ∷ []) ++ fs) (wireList k s at)
-      go true e = f e h
-      go false e = one-more z k e h g
-
--- the bytes of parameters, from a position on, are read as their fields
-wire-entries : (m : ParameterMap) (s : List ℕ) (n id k at : ℕ) → drop at s ≡ entriesFrom n id m → length s ≤ at + k → Lists (fieldsFor n id m) (wireList k s at)
-unfolding entriesFrom fieldsFor
-wire-entries m s zero id k at e h =
-    let z : length (drop at s) ≡ 0 = rw e in
-    wire-past s k at (omega (arith, length-drop at s, z))
-wire-entries m s (suc n) id k at e h =
-    after-entry s at id (entriesFrom n ((id + 1) % 256) m) (fieldsFor n ((id + 1) % 256) m) (entryOf m id) k e h
-    (wire-entries m s n ((id + 1) % 256) k at) (λ (j : ℕ). wire-entries m s n ((id + 1) % 256) j (at + 7))
+entries-are : (m : ParameterMap) (n id : ℕ) → entriesFrom n id m ≡ fieldsBytes (fieldsFor n id m)
+unfolding entriesFrom fieldsFor fieldsBytes
+entries-are m zero id = refl
+entries-are m (suc n) id =
+    let next = (id + 1) % 256 in
+    rw (entries-are m n next) (entry-is id (entryOf m id) (fieldsFor n next m))
 
 parameters-listed : (m : ParameterMap) → Lists (fieldsFor 256 128 m) (wireFields (parameterBytes m))
-unfolding wireFields parameterBytes
-parameters-listed m = wire-entries m (entriesFrom 256 128 m) 256 128 (length (entriesFrom 256 128 m)) 0 refl (omega arith)
+unfolding parameterBytes
+parameters-listed m = rw (entries-are m 256 128) (fields-listed (fieldsFor 256 128 m))
 
 -- the entries after one parameter was read
 abbrev stored : ℕ → Value → ParameterMap → ParameterMap
