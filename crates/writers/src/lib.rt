@@ -3,3 +3,4 @@ pub mod encode;
 pub mod fields;
 pub mod pack;
 mod sizes;
+pub mod tables;

@@ -22,6 +22,7 @@ use Rattle.codec.specs.BigEndian.{bigEndianBytes}
 use Rattle.codec.proofs.Laws.BigEndian.{bytes-length, number-back}
 use Rattle.codec.proofs.Laws.VlqTrip.{written-read-at, at-most-ten}
 use Rattle.voting.specs.Table.{slot}
+use Rattle.voting.specs.declared.table.Slot.{Slot}
 use Rattle.voting.specs.declared.table.Value.{Value}
 use Rattle.voting.specs.declared.table.Value.the-variants.{Absent, Number}
 use Rattle.voting.proofs.Laws.Tests.{by-test, neither}
@@ -240,6 +241,15 @@ parameters-listed : (m : ParameterMap) → Lists (fieldsFor 256 128 m) (wireFiel
 unfolding parameterBytes
 parameters-listed m = rw (entries-are m 256 128) (fields-listed (fieldsFor 256 128 m))
 
+-- an entry that was stored, and any other
+pub store-same : (m : ParameterMap) (id : ℕ) (v : Value) → id < length (m .entries) → entryOf (store m id v) id ≡ v
+unfolding entryOf
+store-same m id v h = ap (λ (x : Slot). x .value) (getD-set-same (m .entries) id (slot v) (slot Absent) h)
+
+pub store-other : (m : ParameterMap) (id at : ℕ) (v : Value) → (at ≡ id → ⊥) → entryOf (store m id v) at ≡ entryOf m at
+unfolding entryOf
+store-other m id at v n = ap (λ (x : Slot). x .value) (getD-set-other (m .entries) id at (slot v) (slot Absent) n)
+
 -- the entries after one parameter was read
 abbrev stored : ℕ → Value → ParameterMap → ParameterMap
 stored id Absent m = m
@@ -267,16 +277,14 @@ stored-length id (Number z) m = go (eqb id 124)
     go false = length-set (m .entries) id (slot (Number z))
 
 stored-other : (id at : ℕ) (v : Value) (m : ParameterMap) → (at ≡ id → ⊥) → entryOf (stored id v m) at ≡ entryOf m at
-unfolding entryOf
 stored-other id at Absent m n = refl
 stored-other id at (Number z) m n = go (eqb id 124)
   where
-    go : (t : Bool) → getD (cond t m (store m id (Number z)) .entries) at (slot Absent) .value ≡ getD (m .entries) at (slot Absent) .value
+    go : (t : Bool) → entryOf (cond t m (store m id (Number z))) at ≡ entryOf m at
     go true = refl
-    go false = rw (getD-set-other (m .entries) id at (slot (Number z)) (slot Absent) n)
+    go false = store-other m id at (Number z) n
 
 stored-same : (id : ℕ) (v : Value) (m : ParameterMap) → id < length (m .entries) → entryOf m id ≡ Absent → entryOf (stored id v m) id ≡ cond (eqb id 124) Absent v
-unfolding entryOf
 stored-same id Absent m h e = e ∙ go (eqb id 124)
   where
     go : (t : Bool) → Absent ≡ cond t Absent Absent
@@ -284,9 +292,9 @@ stored-same id Absent m h e = e ∙ go (eqb id 124)
     go false = refl
 stored-same id (Number z) m h e = go (eqb id 124)
   where
-    go : (t : Bool) → getD (cond t m (store m id (Number z)) .entries) id (slot Absent) .value ≡ cond t Absent (Number z)
+    go : (t : Bool) → entryOf (cond t m (store m id (Number z))) id ≡ cond t Absent (Number z)
     go true = e
-    go false = rw (getD-set-same (m .entries) id (slot (Number z)) (slot Absent) h)
+    go false = store-same m id (Number z) h
 
 -- an id that is not among the n ids from one on keeps its entry; one that is among them gets the entry that was written
 module _ (m : ParameterMap) (held : (id : ℕ) → Held (entryOf m id)) (id : ℕ) (small : id < 256) where
@@ -313,11 +321,11 @@ module _ (m : ParameterMap) (held : (id : ℕ) → Held (entryOf m id)) (id : �
       (λ t. let q = eqb-false id from t in
       reached n next (stored from (entryOf m from) a) (omega arith) (omega arith) (omega arith) (stored-length from (entryOf m from) a ∙ l) (stored-other from id (entryOf m from) a q ∙ e))
 
-no-entry : (id : ℕ) → id < 256 → entryOf noParameters id ≡ Absent
+pub no-entry : (id : ℕ) → id < 256 → entryOf noParameters id ≡ Absent
 unfolding entryOf noParameters
 no-entry id h = rw (getD-replicate 256 id (slot Absent) (slot Absent) h)
 
-no-length : length (noParameters .entries) ≡ 256
+pub no-length : length (noParameters .entries) ≡ 256
 unfolding noParameters
 no-length = length-replicate 256 (slot Absent)
 
