@@ -1,7 +1,7 @@
 -- Fields written from lists, and read back. docs/RULES.md, "Writers and rest".
 -- Assumes nothing.
 use Prim.Native.Nat.{ℕ, _*_, _≤_}
-use mathlib.Core.Bool.{not, cond}
+use mathlib.Core.Bool.{Bool, not, cond}
 use mathlib.Core.Path.{_≡_}
 use mathlib.Core.List.{List, [], _∷_, _++_}
 use lib.Dec.{ltb, eqb}
@@ -29,11 +29,15 @@ unfoldable pub fieldsBytes : List Field → List ℕ
 fieldsBytes [] = []
 fieldsBytes (f ∷ fs) = fieldBytes f ++ fieldsBytes fs
 
+-- the size of a value that is too long
+abbrev pub longSize : ℕ → Bool
+longSize = ltb 64
+
 -- 22, then 24, then 3 where there are not two key bytes for each size, then 5 where there are not as many bytes as the sizes say
 unfoldable pub fieldsRefusal : List ℕ → List ℕ → List ℕ → ℕ
 fieldsRefusal keys sizes values =
     cond (ltb 65536 (length sizes)) inputLong
-    (cond (any (ltb 64) sizes) writtenValueLong
+    (cond (any longSize sizes) writtenValueLong
     (cond (not (eqb (length keys) (2 * length sizes))) fieldHeaderCut
     (cond (not (eqb (sum sizes) (length values))) valueCut 0)))
 

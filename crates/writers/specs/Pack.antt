@@ -6,6 +6,7 @@ use mathlib.Core.Bool.{cond}
 use mathlib.Core.Path.{_≡_}
 use mathlib.Core.List.{List, [], _∷_, _++_}
 use lib.Dec.{eqb}
+use lib.IntN.{ℤ}
 use Rattle.codec.specs.Signed.{bitsOf}
 use Rattle.codec.specs.BigEndian.{bigEndianBytes}
 use Rattle.codec.specs.Output.{Outcome, writing, writes}
@@ -26,10 +27,14 @@ pub record PackedBack (id fields : List ℕ) : Type 0 where
   pub same-id : headerId (packed id fields) ≡ id
   pub same-fields : fieldsOf (packed id fields) ≡ items (wireFields fields)
 
--- a parameter as a field: key 0 and the id, a length of 4, and the number; 124 is dropped
+-- a parameter as a field: key 0 and the id, a length of 4, and the number
+abbrev pub numberBytes : ℕ → ℤ → List ℕ
+numberBytes id z = 0 ∷ id ∷ 4 ∷ bigEndianBytes 4 (bitsOf 32 z)
+
+-- 124 is dropped
 unfoldable pub entryBytes : ℕ → Value → List ℕ
 entryBytes id Absent = []
-entryBytes id (Number z) = cond (eqb id 124) [] (0 ∷ id ∷ 4 ∷ bigEndianBytes 4 (bitsOf 32 z))
+entryBytes id (Number z) = cond (eqb id 124) [] (numberBytes id z)
 
 -- n ids from one on; 0 follows 255
 unfoldable pub entriesFrom : ℕ → ℕ → ParameterMap → List ℕ

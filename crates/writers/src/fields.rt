@@ -8,13 +8,15 @@ use extension::body;
 ghost use Prim.Native.Nat.{_*_, _≤_};
 ghost use mathlib.Core.Path.{_≡_};
 ghost use mathlib.Core.Bool.{false};
-ghost use lib.Dec.{ltb};
 ghost use lib.ListN.{length};
 ghost use lib.Seq.{sets};
 ghost use Rattle.codec.specs.Output.{outcome};
 ghost use Rattle.extension.specs.Section.{any};
 ghost use Rattle.extension.specs.Encode.{sum};
-ghost use Rattle.writers.specs.Fields.{fieldList, fieldBytes, fieldsBytes, fieldsRefusal, packFields, FieldsBack};
+ghost use Rattle.writers.specs.Fields.{fieldList, fieldBytes, fieldsBytes, longSize, fieldsRefusal, packFields, FieldsBack};
+
+// The most bytes of a value.
+const SIZE_MOST: u32 = body::VALUE_MOST as u32;
 
 // Writes fields as they stand in a body, one after another. They are handed over as their keys (two bytes each), the sizes of their values,
 // and the bytes of all values one after another.
@@ -40,7 +42,7 @@ fn fields_refusal(keys: &[u8], sizes: &[u32], values: &[u8]) -> u8
     if pack::FIELDS_MOST < sizes.len() {
         return refusal::INPUT_LONG;
     }
-    if sizes::any_above(sizes, body::VALUE_MOST as u32) {
+    if sizes::any_above(sizes, SIZE_MOST) {
         return refusal::WRITTEN_VALUE_LONG;
     }
     if keys.len() != 2 * sizes.len() {
@@ -53,7 +55,7 @@ fn fields_refusal(keys: &[u8], sizes: &[u32], values: &[u8]) -> u8
 }
 
 fn put_fields(out: &mut [u8], keys: &[u8], sizes: &[u32], values: &[u8])
-    requires { ⌜ (length (now sizes) ≤ 65536) × (any (ltb 64) (now sizes) ≡ false) × (length (now keys) ≡ 2 * length (now sizes)) × (sum (now sizes) ≡ length (now values)) ⌝ }
+    requires { ⌜ (length (now sizes) ≤ 65536) × (any longSize (now sizes) ≡ false) × (length (now keys) ≡ 2 * length (now sizes)) × (sum (now sizes) ≡ length (now values)) ⌝ }
     ensures { λ r. ⌜ now (out .exit) ≡ sets (now (out .entry)) 0 (fieldsBytes (fieldList (now (keys .entry)) (now (sizes .entry)) (now (values .entry)))) ⌝ }
 {
     let mut p: usize = 0;
@@ -73,7 +75,7 @@ fn put_fields(out: &mut [u8], keys: &[u8], sizes: &[u32], values: &[u8])
 }
 
 fn put_field(out: &mut [u8], at: usize, key0: u8, key1: u8, value: &[u8])
-    requires { ⌜ length (now value) ≤ 64 ⌝ }
+    requires { ⌜ length (now value) ≤ 255 ⌝ }
     ensures { λ r. ⌜ now (out .exit) ≡ sets (now (out .entry)) at (fieldBytes (record { key0 = key0; key1 = key1; value = now (value .entry) })) ⌝ }
 {
     if out.len() <= at {

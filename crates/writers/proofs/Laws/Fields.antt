@@ -22,7 +22,7 @@ use Rattle.extension.specs.Pack.{wireList, wireFields, longValue}
 use Rattle.extension.proofs.Laws.Parts.{drop-past}
 use Rattle.extension.proofs.Laws.Pack.{sizeAt, fieldThere, wire-here, wire-item}
 use Rattle.extension.proofs.Laws.PackTrip.{Lists, wire-past}
-use Rattle.writers.specs.Fields.{fieldList, fieldBytes, fieldsBytes, fieldsRefusal, packFields}
+use Rattle.writers.specs.Fields.{fieldList, fieldBytes, fieldsBytes, longSize, fieldsRefusal, packFields}
 use Rattle.writers.proofs.Laws.Sizes.{none-above, sum-here, take-most}
 
 -- the refusal, test by test
@@ -31,7 +31,7 @@ module _ (keys sizes values : List ℕ) where
   unfolding fieldsRefusal
   many-sizes h = rw (lt-ltb 65536 (length sizes) h)
 
-  module _ (h₁ : length sizes ≤ 65536) {a : Bool} (q : a ≡ any (ltb 64) sizes) where
+  module _ (h₁ : length sizes ≤ 65536) {a : Bool} (q : a ≡ any longSize sizes) where
     pub long-size : a ≡ true → writtenValueLong ≡ fieldsRefusal keys sizes values
     unfolding fieldsRefusal
     long-size e = rw (le-ltb 65536 (length sizes) h₁, ← q, e)
@@ -50,16 +50,20 @@ module _ (keys sizes values : List ℕ) where
         unfolding fieldsRefusal
         none-differs e = rw (le-ltb 65536 (length sizes) h₁, ← q, h₂, eq-eqb (length keys) (2 * length sizes) h₃, ← r, e)
 
+-- a size that is not too long fits a length byte
+pub size-fits : (n : ℕ) → longSize n ≡ false → n ≤ 255
+size-fits n e = omega (arith, ltb-false)
+
 -- what no refusal says
 abbrev pub Fitting : List ℕ → List ℕ → List ℕ → Type 0
-Fitting keys sizes values = (length sizes ≤ 65536) × (any (ltb 64) sizes ≡ false) × (length keys ≡ 2 * length sizes) × (sum sizes ≡ length values)
+Fitting keys sizes values = (length sizes ≤ 65536) × (any longSize sizes ≡ false) × (length keys ≡ 2 * length sizes) × (sum sizes ≡ length values)
 
 pub fitting : (keys sizes values : List ℕ) → fieldsRefusal keys sizes values ≡ 0 → Fitting keys sizes values
 unfolding fieldsRefusal
 fitting keys sizes values =
-    go (ltb 65536 (length sizes)) (any (ltb 64) sizes) (eqb (length keys) (2 * length sizes)) (eqb (sum sizes) (length values)) refl refl refl refl
+    go (ltb 65536 (length sizes)) (any longSize sizes) (eqb (length keys) (2 * length sizes)) (eqb (sum sizes) (length values)) refl refl refl refl
   where
-    go : (a b c d : Bool) → ltb 65536 (length sizes) ≡ a → any (ltb 64) sizes ≡ b → eqb (length keys) (2 * length sizes) ≡ c → eqb (sum sizes) (length values) ≡ d
+    go : (a b c d : Bool) → ltb 65536 (length sizes) ≡ a → any longSize sizes ≡ b → eqb (length keys) (2 * length sizes) ≡ c → eqb (sum sizes) (length values) ≡ d
         → cond a inputLong (cond b writtenValueLong (cond (not c) fieldHeaderCut (cond (not d) valueCut 0))) ≡ 0 → Fitting keys sizes values
     go true b c d p q r s e = absurd (omega arith)
     go false true c d p q r s e = absurd (omega arith)
@@ -102,13 +106,13 @@ module _ (keys sizes values : List ℕ) (i p : ℕ) where
   fields-end h = rw (drop-of-length-le sizes h, no-sizes (drop (2 * i) keys) (drop p values))
 
   module _ (fit : Fitting keys sizes values) (h : i < length sizes) (t : p + sum (drop i sizes) ≡ length values) where
-    size-most : getD sizes i 0 ≤ 64
-    size-most = none-above 64 sizes i (fit .1)
+    size-most : getD sizes i 0 ≤ 255
+    size-most = none-above longSize 255 size-fits sizes i (fit .1)
 
     pub values-too : p + getD sizes i 0 ≤ length values
     values-too = omega (arith, sum-here sizes i h)
 
-    pub value-short : length (take (p + getD sizes i 0 - p) (drop p values)) ≤ 64
+    pub value-short : length (take (p + getD sizes i 0 - p) (drop p values)) ≤ 255
     value-short = omega (arith, take-most (p + getD sizes i 0 - p) (drop p values), size-most)
 
     pub values-left : p + getD sizes i 0 + sum (drop (i + 1) sizes) ≡ length values
@@ -148,13 +152,13 @@ fields-count (a ∷ []) sizes values e = absurd (omega arith)
 fields-count (a ∷ b ∷ keys) [] values e = refl
 fields-count (a ∷ b ∷ keys) (n ∷ sizes) values e = ap suc (fields-count keys sizes (drop n values) (omega arith))
 
-pub fields-short : (keys sizes values : List ℕ) → any (ltb 64) sizes ≡ false → any longValue (fieldList keys sizes values) ≡ false
+pub fields-short : (keys sizes values : List ℕ) → any longSize sizes ≡ false → any longValue (fieldList keys sizes values) ≡ false
 unfolding fieldList any longValue
 fields-short [] sizes values e = refl
 fields-short (a ∷ []) sizes values e = refl
 fields-short (a ∷ b ∷ keys) [] values e = refl
 fields-short (a ∷ b ∷ keys) (n ∷ sizes) values e =
-    let g = neither (ltb 64 n) (any (ltb 64) sizes) e in
+    let g = neither (longSize n) (any longSize sizes) e in
     rw (le-ltb 64 (length (take n values)) (omega (arith, take-most n values, ltb-false 64 n (g .0)))) (fields-short keys sizes (drop n values) (g .1))
 
 pub fields-length : (keys sizes values : List ℕ) → length keys ≡ 2 * length sizes → sum sizes ≡ length values

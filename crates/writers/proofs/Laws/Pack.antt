@@ -31,7 +31,7 @@ use Rattle.extension.specs.Pack.{wireList, wireFields, longValue, packRefusal, 
 use Rattle.extension.proofs.Laws.Pack.{sizeAt, fieldThere, wire-header-cut, wire-value-cut, wire-here, value-length, wire-none, wire-end, wire-stop, wire-item}
 use Rattle.writers.specs.declared.pack.Survey.{Survey}
 use Rattle.writers.specs.Survey.{surveyed, surveyRefusal}
-use Rattle.writers.specs.Pack.{packExtension, entryBytes, entriesFrom}
+use Rattle.writers.specs.Pack.{packExtension, numberBytes, entryBytes, entriesFrom}
 
 -- the survey of a list of fields, after so many fields before it, of which one was long or none
 unfoldable pub surveyedOn : ℕ → Bool → Listing Field → Survey
@@ -156,7 +156,7 @@ module _ (id : ℕ) where
   unfolding entryBytes
   entry-dropped v x e q = rw (e, eq-eqb id 124 q)
 
-  pub entry-number : (v : Value) (x : ℤ) → v ≡ Number x → (id ≡ 124 → ⊥) → entryBytes id v ≡ 0 ∷ id ∷ 4 ∷ bigEndianBytes 4 (bitsOf 32 x)
+  pub entry-number : (v : Value) (x : ℤ) → v ≡ Number x → (id ≡ 124 → ⊥) → entryBytes id v ≡ numberBytes id x
   unfolding entryBytes
   entry-number v x e q = rw (e, ne-eqb id 124 q)
 
@@ -164,20 +164,12 @@ module _ (id : ℕ) where
   unfolding bigEndianBytes
   entry-seven v x e q = rw (entry-number v x e q)
 
-  -- the four bytes b of the number, stored one by one
-  pub entry-stored : (v : Value) (x : ℤ) → SFits w32 x → v ≡ Number x → (id ≡ 124 → ⊥) → {b : List ℕ} → b ≡ bigEndianBytes 4 (bitsOf 32 (toZ w32 (ofZ w32 x))) → (cells : List ℕ) (at : ℕ)
-      → sets cells at (0 ∷ id ∷ 4 ∷ getD b 0 0 ∷ getD b 1 0 ∷ getD b 2 0 ∷ getD b 3 0 ∷ []) ≡ sets cells at (entryBytes id v)
-  unfolding bigEndianBytes
-  entry-stored v x f e q {b} p cells at =
-      let is-b : b ≡ bigEndianBytes 4 (bitsOf 32 x) = p ∙ ap (λ (z : ℤ). bigEndianBytes 4 (bitsOf 32 z)) (toZ-ofZ w32 x f) in
-      rw (is-b, entry-number v x e q)
-
   pub entry-most : (v : Value) → length (entryBytes id v) ≤ 7
   unfolding entryBytes bigEndianBytes
   entry-most Absent = omega arith
   entry-most (Number x) = go (eqb id 124)
     where
-      go : (t : Bool) → length (cond t [] (0 ∷ id ∷ 4 ∷ bigEndianBytes 4 (bitsOf 32 x))) ≤ 7
+      go : (t : Bool) → length (cond t [] (numberBytes id x)) ≤ 7
       go true = omega arith
       go false = omega arith
 

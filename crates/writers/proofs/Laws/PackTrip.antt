@@ -13,7 +13,7 @@ use mir.Val.{SFits}
 use borrow.Author.Tests.{le-ltb, ltb-true, ltb-false, leb-true, leb-false, eqb-true, eqb-false}
 use lib.Dec.{ltb, leb, eqb}
 use lib.IntN.{ℤ}
-use lib.ListN.{length, getD, drop, length-drop, length-append, length-set, length-replicate, getD-replicate}
+use lib.ListN.{length, drop, length-drop, length-append, length-set, length-replicate, getD-replicate}
 use lib.Seq.{getD-set-same, getD-set-other, take-at, drop-at, take-append-le, drop-append-le}
 use Rattle.codec.specs.Refusal.{fieldHeaderCut, valueCut, inputLong, writtenValueLong}
 use Rattle.codec.specs.Vlq.{vlqBytes}
@@ -35,7 +35,7 @@ use Rattle.extension.proofs.Laws.Body.{check-body-by}
 use Rattle.extension.specs.Pack.{wireAt, wireList, wireFields, longValue, packRefusal, packed}
 use Rattle.extension.proofs.Laws.Pack.{sizeAt, fieldThere, wire-header-cut, wire-value-cut, wire-here, value-length, wire-none, wire-end, wire-stop, wire-item}
 use Rattle.extension.proofs.Laws.PackTrip.{field-here, size-there, field-there, Lists, fine, Held, Sound}
-use Rattle.writers.specs.Pack.{PackedBack, entryBytes, entriesFrom, parameterBytes, ParametersBack}
+use Rattle.writers.specs.Pack.{PackedBack, numberBytes, entryBytes, entriesFrom, parameterBytes, ParametersBack}
 use Rattle.writers.specs.Fields.{fieldBytes, fieldsBytes}
 use Rattle.writers.proofs.Laws.Fields.{fields-listed}
 use Rattle.writers.proofs.Laws.Pack.{entries-most}
@@ -226,7 +226,7 @@ unfolding entryBytes fieldsBytes fieldBytes bigEndianBytes
 entry-is id Absent fs = refl
 entry-is id (Number z) fs = go (eqb id 124)
   where
-    go : (t : Bool) → cond t [] (0 ∷ id ∷ 4 ∷ bigEndianBytes 4 (bitsOf 32 z)) ++ fieldsBytes fs ≡ fieldsBytes (cond t [] (entryField id z ∷ []) ++ fs)
+    go : (t : Bool) → cond t [] (numberBytes id z) ++ fieldsBytes fs ≡ fieldsBytes (cond t [] (entryField id z ∷ []) ++ fs)
     go true = refl
     go false = refl
 

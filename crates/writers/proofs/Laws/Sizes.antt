@@ -7,8 +7,8 @@ use Prim.Native.Nat.{ℕ, zero, suc, _+_, _-_, _*_, _≤_, _<_}
 use native.Mathlib.Nat.{mul-suc}
 use native.Mathlib.Numerals.{add-one}
 use native.Mathlib.Omega.{arith}
-use borrow.Author.Tests.{ltb-false, ne-eqb}
-use lib.Dec.{ltb, eqb}
+use borrow.Author.Tests.{ne-eqb}
+use lib.Dec.{eqb}
 use lib.ListN.{length, take, drop, getD, drop-of-length-le}
 use lib.Seq.{drop-cons}
 use Rattle.voting.proofs.Laws.Tests.{neither, eqb-iff, eqb-comm}
@@ -29,12 +29,22 @@ module _ {A : Type 0} (p : A → Bool) (xs : List A) (i : ℕ) where
     pub any-past : p (getD xs i d) ≡ false → any p (drop i xs) ≡ any p (drop (i + 1) xs)
     any-past e = rw (drop-cons xs i d h, add-one) (any-next p (getD xs i d) (drop (suc i) xs) e)
 
--- where none is above a bound, each is at most the bound
-pub none-above : (k : ℕ) (ns : List ℕ) (i : ℕ) → any (ltb k) ns ≡ false → getD ns i 0 ≤ k
-unfolding any
-none-above k [] i e = omega arith
-none-above k (n ∷ ns) zero e = ltb-false k n (neither (ltb k n) (any (ltb k) ns) e .0)
-none-above k (n ∷ ns) (suc i) e = none-above k ns i (neither (ltb k n) (any (ltb k) ns) e .1)
+-- where none passes a test that every larger size passes, each is at most the bound
+module _ (p : ℕ → Bool) (k : ℕ) (most : (n : ℕ) → p n ≡ false → n ≤ k) where
+  pub none-above : (ns : List ℕ) (i : ℕ) → any p ns ≡ false → getD ns i 0 ≤ k
+  unfolding any
+  none-above [] i e = omega arith
+  none-above (n ∷ ns) zero e = most n (neither (p n) (any p ns) e .0)
+  none-above (n ∷ ns) (suc i) e = none-above ns i (neither (p n) (any p ns) e .1)
+
+  -- and the sum is at most the bound for each
+  pub sum-most : (ns : List ℕ) → any p ns ≡ false → sum ns ≤ k * length ns
+  unfolding any sum
+  sum-most [] e = omega arith
+  sum-most (n ∷ ns) e =
+      let b = neither (p n) (any p ns) e in
+      let m : k * suc (length ns) ≡ k * length ns + k = mul-suc k (length ns) in
+      omega (arith, m, most n (b .0), sum-most ns (b .1))
 
 -- the sum of the sizes, from a position on
 module _ (ns : List ℕ) (i : ℕ) where
@@ -64,15 +74,6 @@ module _ (ns : List ℕ) (i left : ℕ) where
 pub from-not : (b c : Bool) → not b ≡ c → b ≡ not c
 from-not true c e = ap not e
 from-not false c e = ap not e
-
--- where none is above a bound, the sum is at most the bound for each
-pub sum-most : (k : ℕ) (ns : List ℕ) → any (ltb k) ns ≡ false → sum ns ≤ k * length ns
-unfolding any sum
-sum-most k [] e = omega arith
-sum-most k (n ∷ ns) e =
-    let b = neither (ltb k n) (any (ltb k) ns) e in
-    let m : k * suc (length ns) ≡ k * length ns + k = mul-suc k (length ns) in
-    omega (arith, m, ltb-false k n (b .0), sum-most k ns (b .1))
 
 pub take-most : (n : ℕ) (xs : List ℕ) → length (take n xs) ≤ n
 take-most zero xs = omega arith

@@ -8,9 +8,6 @@ use Rattle.writers.proofs.fields.fields_refusal.Tie as tie
 returns : tie.Need-returns
 returns c = many-sizes _ _ _ (c .if1 .taken)
 
-cast-any-above : tie.Need-cast-any-above
-cast-any-above c = search needs
-
 any-above-requires : tie.Need-any-above-requires
 any-above-requires c κs = search needs
 
@@ -45,7 +42,6 @@ fields-refusal-spec =
     tie.close
     (tie.spec
     returns
-    cast-any-above
     any-above-requires
     returns-2
     mul-if3

@@ -2,9 +2,9 @@
 use mathlib.Core.Path.{sym, _∙_}
 use native.Mathlib.Omega.{arith}
 use Rattle.codec.proofs.Laws.Output.{short, done}
-use Rattle.writers.specs.Fields.{fieldList, fieldsBytes}
+use Rattle.writers.specs.Fields.{fieldList, fieldsBytes, longSize}
 use Rattle.writers.proofs.Laws.Sizes.{sum-most}
-use Rattle.writers.proofs.Laws.Fields.{fitting, fields-refused, fields-written, fields-length}
+use Rattle.writers.proofs.Laws.Fields.{size-fits, fitting, fields-refused, fields-written, fields-length}
 use Rattle.writers.proofs.Laws.FieldsTrip.{fields-back}
 use borrow.Author.Needs.{needs}
 use Rattle.writers.proofs.fields.pack_fields.Statement.{statement}
@@ -28,7 +28,7 @@ add-n : tie.Need-add-n
 add-n c =
     let a = c .before .before .before .before .before .before .args in
     let f = fitting (a .keys .now) (a .sizes .now) (a .values .now) (sym (c .before .fields-refusal .ensures) ∙ c .if1 .left) in
-    omega (arith, f .0, f .3, sum-most 64 (a .sizes .now) (f .1))
+    omega (arith, f .0, f .3, sum-most longSize 255 size-fits (a .sizes .now) (f .1))
 
 returns-2 : tie.Need-returns-2
 returns-2 c =
