@@ -1,5 +1,6 @@
 pub mod Lists
 pub mod Signed
+pub mod Rule
 pub mod BigEndian
 pub mod Output
 pub mod Vlq

@@ -1,15 +1,16 @@
 -- Settings updates as they are written, and an update read and written again. docs/RULES.md, "Settings update" and "Writers and rest". What
 -- the writers answer stands in crates/writers/specs/Encode.antt.
 -- Assumes nothing.
-use Prim.Native.Nat.{ℕ, zero, suc, _+_, _-_, _<_}
+use Prim.Native.Nat.{ℕ, zero, suc, _+_, _<_}
 use mathlib.Core.Bool.{Bool, false, cond, _&&_, _||_}
 use mathlib.Core.Path.{_≡_}
 use mathlib.Core.List.{List, [], _∷_, _++_}
 use lib.Dec.{ltb, eqb}
-use lib.IntN.{ℤ, pos, negsuc}
+use lib.IntN.{ℤ, pos}
 use lib.Signed.{ltZ}
 use lib.ListN.{length, take, drop}
 use Rattle.codec.specs.Refusal.{updateUnreadable, inputLong, statusRuleLow}
+use Rattle.codec.specs.Rule.{firstRule, offsetOf}
 use Rattle.codec.specs.Vlq.{vlqAt, vlqBytes}
 use Rattle.codec.specs.declared.vlq.Read.{Read}
 use Rattle.codec.specs.declared.vlq.Read.the-variants.{Value, Unreadable}
@@ -18,11 +19,6 @@ use Rattle.extension.specs.declared.update.StatusAt.the-variants.{HasSta
 use Rattle.extension.specs.declared.update.Update.{Update}
 use Rattle.extension.specs.Section.{part, any}
 use Rattle.extension.specs.Update.{Status, statusAt, updateOf, rulesIn, statusesIn}
-
--- the offset of a rule id from 1,000 up
-unfoldable pub offsetOf : ℤ → ℕ
-offsetOf (pos n) = n - 1000
-offsetOf (negsuc n) = 0
 
 unfoldable pub rulesBytes : List ℕ → List ℕ
 rulesBytes [] = []
@@ -56,7 +52,7 @@ unfoldable pub agree : List ℤ → List ℕ → List ℕ → List ℕ → Bool
 agree ids codes sizes raw = eqb (length codes) (length ids) && eqb (length sizes) (length ids) && eqb (sum sizes) (length raw)
 
 unfoldable pub lowRule : ℤ → Bool
-lowRule id = ltZ id (pos 1000)
+lowRule id = ltZ id (pos firstRule)
 
 -- more than 65,536 rules or statuses, or over 65,535 bytes in one status
 unfoldable pub tooLarge : List ℕ → List ℤ → List ℕ → List ℕ → Bool

@@ -10,7 +10,6 @@ use lib.ListN.{length, getD}
 use Rattle.codec.specs.Refusal.{fieldHeaderCut, valueCut, inputLong, writtenValueLong}
 use Rattle.codec.specs.Vlq.{vlqBytes}
 use Rattle.extension.specs.declared.section.Section.{Section}
-use Rattle.extension.specs.declared.body.Survey.{Survey}
 use Rattle.extension.specs.Section.{Reading, got, bad, Listing, done, after, items, refusalOf, part, any}
 use Rattle.extension.specs.Body.{Field, extensionOf, headerId}
 
@@ -33,16 +32,10 @@ wireFields s = wireList (length s) s 0
 unfoldable pub longValue : Field → Bool
 longValue f = ltb 64 (length (f .value))
 
--- how many fields, whether one has a long value, and 3 or 5 where the list is cut
-unfoldable pub surveyed : Listing Field → Survey
-surveyed l = record { count = length (items l); long = any longValue (items l); cut = refusalOf l }
-
--- 22, then 24, then 3 or 5
-unfoldable pub surveyRefusal : Survey → ℕ
-surveyRefusal w = cond (ltb 65536 (w .count)) inputLong (cond (w .long) writtenValueLong (w .cut))
-
+-- 22, then 24, then 3 or 5 where the list is cut
 unfoldable pub packRefusal : Listing Field → ℕ
-packRefusal l = surveyRefusal (surveyed l)
+packRefusal l =
+    cond (ltb 65536 (length (items l))) inputLong (cond (any longValue (items l)) writtenValueLong (refusalOf l))
 
 -- the id, the number of fields, and the fields
 unfoldable pub packed : List ℕ → List ℕ → List ℕ

@@ -35,13 +35,6 @@ pub enum FieldAt {
     NoField(u8),
 }
 
-// For the layers above: a list of fields, walked to its end or to where it is cut: how many fields, whether one has a long value, and 3, 5 or 0.
-pub struct Survey {
-    pub count: usize,
-    pub long: bool,
-    pub cut: u8,
-}
-
 // How many fields a body has, and where they begin and end.
 pub fn parse_extension_bytes(body: &[u8]) -> Parsed
     ensures { λ r. ⌜ r ≡ extensionOf (now (body .entry)) ⌝ }

@@ -33,7 +33,7 @@ pub struct Matched {
 }
 
 // The ids of a table's entries, in rising order.
-const TABLE_IDS: [u8; 12] = [1, 2, 3, 4, 5, 6, 7, 8, 9, 121, 122, 123];
+pub const TABLE_IDS: [u8; 12] = [1, 2, 3, 4, 5, 6, 7, 8, 9, 121, 122, 123];
 
 impl ParameterMap {
     pub fn get(self, id: u8) -> Value

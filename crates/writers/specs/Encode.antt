@@ -9,12 +9,13 @@ use lib.Dec.{ltb}
 use lib.IntN.{ℤ}
 use lib.ListN.{length}
 use Rattle.codec.specs.Refusal.{inputLong}
+use Rattle.codec.specs.Rule.{offsetOf}
 use Rattle.codec.specs.Vlq.{vlqBytes}
 use Rattle.codec.specs.Output.{Outcome, writing}
 use Rattle.extension.specs.Section.{any}
 use Rattle.extension.specs.Mandatory.{mandatoryRule}
 use Rattle.extension.specs.Update.{Status, updateOf, rulesIn, statusesIn}
-use Rattle.extension.specs.Encode.{offsetOf, encoded, statusList, encodeRefusal}
+use Rattle.extension.specs.Encode.{encoded, statusList, encodeRefusal}
 
 -- how many bytes statuses of these rule ids and sizes take
 unfoldable pub statusesSize : List ℤ → List ℕ → ℕ

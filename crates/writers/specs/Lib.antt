@@ -1,2 +1,5 @@
+pub mod Survey
 pub mod Pack
+pub mod Fields
+pub mod Tables
 pub mod Encode

@@ -6,6 +6,7 @@ use mathlib.Core.Bool.{cond}
 use mathlib.Core.Path.{_≡_}
 use mathlib.Core.List.{List, [], _∷_, _++_}
 use lib.Dec.{eqb}
+use lib.IntN.{ℤ}
 use Rattle.codec.specs.Signed.{bitsOf}
 use Rattle.codec.specs.BigEndian.{bigEndianBytes}
 use Rattle.codec.specs.Output.{Outcome, writing, writes}
@@ -13,8 +14,8 @@ use Rattle.voting.specs.declared.table.Value.{Value}
 use Rattle.voting.specs.declared.table.Value.the-variants.{Absent, Number}
 use Rattle.extension.specs.declared.parameters.ParameterMap.{ParameterMap}
 use Rattle.extension.specs.Section.{items}
-use Rattle.extension.specs.Body.{extensionOf, fieldsOf, headerId}
-use Rattle.extension.specs.Parameters.{noParameters, entryOf, parametersIn}
+use Rattle.extension.specs.Body.{extensionOf, fieldsOf, headerId, checkBody}
+use Rattle.extension.specs.Parameters.{entryOf, parametersOf}
 use Rattle.extension.specs.Pack.{wireFields, packRefusal, packed}
 
 unfoldable pub packExtension : List ℕ → List ℕ → List ℕ → Outcome
@@ -26,10 +27,14 @@ pub record PackedBack (id fields : List ℕ) : Type 0 where
   pub same-id : headerId (packed id fields) ≡ id
   pub same-fields : fieldsOf (packed id fields) ≡ items (wireFields fields)
 
--- a parameter as a field: key 0 and the id, a length of 4, and the number; 124 is dropped
+-- a parameter as a field: key 0 and the id, a length of 4, and the number
+abbrev pub numberBytes : ℕ → ℤ → List ℕ
+numberBytes id z = 0 ∷ id ∷ 4 ∷ bigEndianBytes 4 (bitsOf 32 z)
+
+-- 124 is dropped
 unfoldable pub entryBytes : ℕ → Value → List ℕ
 entryBytes id Absent = []
-entryBytes id (Number z) = cond (eqb id 124) [] (0 ∷ id ∷ 4 ∷ bigEndianBytes 4 (bitsOf 32 z))
+entryBytes id (Number z) = cond (eqb id 124) [] (numberBytes id z)
 
 -- n ids from one on; 0 follows 255
 unfoldable pub entriesFrom : ℕ → ℕ → ParameterMap → List ℕ
@@ -43,7 +48,9 @@ parameterBytes m = entriesFrom 256 128 m
 unfoldable pub packParameters : ParameterMap → List ℕ → Outcome
 packParameters m cells = writes (parameterBytes m) cells
 
--- the parameters that were written are a list of fields, and are read back
-pub record ParametersBack (m : ParameterMap) : Type 0 where
-  pub whole : packRefusal (wireFields (parameterBytes m)) ≡ 0
-  pub same : (id : ℕ) → id ≤ 255 → entryOf (parametersIn (items (wireFields (parameterBytes m))) noParameters) id ≡ cond (eqb id 124) Absent (entryOf m id)
+-- the body with these fields passes the body check, and has the parameters that were written
+pub record ParametersBack (m : ParameterMap) (header : List ℕ) : Type 0 where
+  pub packs : packRefusal (wireFields (parameterBytes m)) ≡ 0
+  pub checked : checkBody (packed header (parameterBytes m)) .refusal ≡ 0
+  pub read : parametersOf (packed header (parameterBytes m)) .refusal ≡ 0
+  pub same : (id : ℕ) → id ≤ 255 → entryOf (parametersOf (packed header (parameterBytes m)) .map) id ≡ cond (eqb id 124) Absent (entryOf m id)

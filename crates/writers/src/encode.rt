@@ -1,29 +1,30 @@
 // Settings updates written. docs/RULES.md, "Settings update" and "Writers and rest".
+use crate::sizes;
 use codec::output;
 use codec::output::Wrote;
 use codec::refusal;
+use codec::rule;
+use codec::rule::RuleId;
 use codec::vlq;
 ghost use mathlib.Core.Path.{_≡_};
 ghost use lib.ListN.{length};
-ghost use lib.Dec.{ltb};
 ghost use lib.IntN.{pos};
 ghost use lib.Signed.{ltZ};
 ghost use mathlib.Core.Bool.{true, false};
 ghost use mathlib.Core.List.{[]};
+ghost use Rattle.codec.specs.Rule.{offsetOf};
 ghost use Rattle.codec.specs.Vlq.{vlqBytes};
 ghost use lib.Seq.{sets};
 ghost use Prim.Native.Nat.{_+_, _≤_};
 ghost use Rattle.codec.specs.Output.{outcome};
 ghost use Rattle.extension.specs.Section.{any};
-ghost use Rattle.extension.specs.Encode.{offsetOf, rulesBytes, statusBytes, statusesBytes, statusList, sum, agree, lowRule, encodeRefusal};
+ghost use Rattle.extension.specs.Encode.{rulesBytes, statusBytes, statusesBytes, statusList, agree, lowRule, encodeRefusal};
 ghost use Rattle.writers.specs.Encode.{statusesSize, encodeUpdate, encodeRules, EncodedAgain};
 
-// The most rules and the most statuses that are written, the most bytes of one status, and the least rule id of a status.
+// The most rules and the most statuses that are written, and the most bytes of one status.
 const ITEMS_MOST: usize = 65536;
 
 const RAW_MOST: u32 = 65535;
-
-const FIRST_RULE_ID: i16 = 1000;
 
 // Writes an update: the rules to disable, and the statuses, which are handed over as their rule ids, codes and sizes, and the raw bytes of
 // all of them one after another.
@@ -96,7 +97,7 @@ fn encode_refusal(rules: &[u16], ids: &[i16], codes: &[u8], sizes: &[u32], raw: 
     if ITEMS_MOST < sizes.len() {
         return refusal::INPUT_LONG;
     }
-    if any_large(sizes) {
+    if sizes::any_above(sizes, RAW_MOST) {
         return refusal::INPUT_LONG;
     }
     if any_low(ids) {
@@ -108,23 +109,10 @@ fn encode_refusal(rules: &[u16], ids: &[i16], codes: &[u8], sizes: &[u32], raw: 
     if sizes.len() != ids.len() {
         return refusal::UPDATE_UNREADABLE;
     }
-    if total(sizes) != raw.len() as u64 {
+    if !sizes::sum_is(sizes, raw.len()) {
         return refusal::UPDATE_UNREADABLE;
     }
     0
-}
-
-fn any_large(sizes: &[u32]) -> bool
-    ensures { λ r. ⌜ r ≡ any (ltb 65535) (now (sizes .entry)) ⌝ }
-{
-    let mut i: usize = 0;
-    while i < sizes.len() {
-        if RAW_MOST < sizes[i] {
-            return true;
-        }
-        i += 1;
-    }
-    false
 }
 
 // fit: an id of 16 bits is not above 32,767.
@@ -134,25 +122,12 @@ fn any_low(ids: &[i16]) -> bool
 {
     let mut i: usize = 0;
     while i < ids.len() {
-        if ids[i] < FIRST_RULE_ID {
+        if ids[i] < rule::FIRST_RULE_ID {
             return true;
         }
         i += 1;
     }
     false
-}
-
-fn total(sizes: &[u32]) -> u64
-    requires { ⌜ length (now sizes) ≤ 65536 ⌝ }
-    ensures { λ r. ⌜ r ≡ sum (now (sizes .entry)) ⌝ }
-{
-    let mut n: u64 = 0;
-    let mut i: usize = 0;
-    while i < sizes.len() {
-        n += sizes[i] as u64;
-        i += 1;
-    }
-    n
 }
 
 fn rules_size(rules: &[u16]) -> usize
@@ -184,16 +159,6 @@ fn put_rules(out: &mut [u8], at: usize, rules: &[u16])
     }
 }
 
-fn offset_of(id: i16) -> u64
-    ensures { λ r. ⌜ r ≡ offsetOf id ⌝ }
-{
-    if id < FIRST_RULE_ID {
-        0
-    } else {
-        (id - FIRST_RULE_ID) as u64
-    }
-}
-
 fn statuses_size(ids: &[i16], sizes: &[u32]) -> usize
     requires { ⌜ length (now ids) ≤ 65536 ⌝ }
     ensures { λ r. ⌜ (r ≡ statusesSize (now (ids .entry)) (now (sizes .entry))) × (r ≤ 281474978086912) ⌝ }
@@ -204,16 +169,17 @@ fn statuses_size(ids: &[i16], sizes: &[u32]) -> usize
         if sizes.len() <= i {
             return n;
         }
-        n += status_size(ids[i], sizes[i]);
+        n += status_size(RuleId(ids[i]), sizes[i]);
         i += 1;
     }
     n
 }
 
-fn status_size(id: i16, size: u32) -> usize
-    ensures { λ r. ⌜ (r ≡ length (vlqBytes (offsetOf id)) + length (vlqBytes size) + 1 + size) × (r ≤ 4294967317) ⌝ }
+fn status_size(rule: RuleId, size: u32) -> usize
+    ensures { λ r. ⌜ (r ≡ length (vlqBytes (offsetOf (rule .0))) + length (vlqBytes size) + 1 + size) × (r ≤ 4294967317) ⌝ }
 {
-    vlq::size(offset_of(id)) + vlq::size(size as u64) + 1 + size as usize
+    let offset = rule.wire_offset();
+    vlq::size(offset.0 as u64) + vlq::size(size as u64) + 1 + size as usize
 }
 
 fn put_statuses(out: &mut [u8], at: usize, ids: &[i16], codes: &[u8], sizes: &[u32], raw: &[u8])
@@ -227,22 +193,24 @@ fn put_statuses(out: &mut [u8], at: usize, ids: &[i16], codes: &[u8], sizes: &[u
         if out.len() <= k {
             return;
         }
+        let rule = RuleId(ids[i]);
         let size = sizes[i];
         let next = p + size as usize;
-        put_status(out, k, ids[i], codes[i], &raw[p..next]);
-        k += status_size(ids[i], size);
+        put_status(out, k, rule, codes[i], &raw[p..next]);
+        k += status_size(rule, size);
         p = next;
         i += 1;
     }
 }
 
-fn put_status(out: &mut [u8], at: usize, id: i16, code: u8, raw: &[u8])
-    ensures { λ r. ⌜ now (out .exit) ≡ sets (now (out .entry)) at (statusBytes (record { rule = id; code = code; raw = now (raw .entry) })) ⌝ }
+fn put_status(out: &mut [u8], at: usize, rule: RuleId, code: u8, raw: &[u8])
+    ensures { λ r. ⌜ now (out .exit) ≡ sets (now (out .entry)) at (statusBytes (record { rule = rule .0; code = code; raw = now (raw .entry) })) ⌝ }
 {
     if out.len() <= at {
         return;
     }
-    let offset = offset_of(id);
+    let wire = rule.wire_offset();
+    let offset = wire.0 as u64;
     let size = raw.len() as u64;
     let second = at + vlq::size(offset);
     let third = second + vlq::size(size);

@@ -5,19 +5,27 @@ use codec::output::Wrote;
 use codec::refusal;
 use codec::vlq;
 use extension::body;
-use extension::body::Survey;
 use extension::parameters::ParameterMap;
 use voting::table::Value;
-ghost use Prim.Native.Nat.{_≤_};
+ghost use Prim.Native.Nat.{ℕ, _≤_};
 ghost use mathlib.Core.Path.{_≡_};
+ghost use mathlib.Core.List.{List};
 ghost use lib.ListN.{length};
 ghost use lib.Seq.{sets};
 ghost use Rattle.codec.specs.Output.{outcome};
-ghost use Rattle.extension.specs.Pack.{wireFields, surveyed, surveyRefusal, packRefusal, packed};
+ghost use Rattle.extension.specs.Pack.{wireFields, packRefusal, packed};
+ghost use Rattle.writers.specs.Survey.{surveyed, surveyRefusal};
 ghost use Rattle.writers.specs.Pack.{packExtension, PackedBack, entryBytes, parameterBytes, packParameters, ParametersBack};
 
 // The most fields that are written.
-const FIELDS_MOST: usize = 65536;
+pub const FIELDS_MOST: usize = 65536;
+
+// A list of fields, walked to its end or to where it is cut: how many fields, whether one has a long value, and 3, 5 or 0.
+struct Survey {
+    count: usize,
+    long: bool,
+    cut: u8,
+}
 
 // Writes a body: the id, the number of fields, and the fields, which are handed over as they stand in a body, key, length and value.
 pub fn pack_extension_bytes(header_id: [u8; 32], fields: &[u8], out: &mut [u8]) -> Wrote
@@ -101,7 +109,7 @@ fn pack_refusal(w: Survey) -> u8
 // Writes parameters as fields, in the order of signed ids; 124 is dropped.
 pub fn pack_parameters_to_kv(params: ParameterMap, out: &mut [u8]) -> Wrote
     ensures { λ r. ⌜ outcome r (now (out .exit)) ≡ packParameters params (now (out .entry)) ⌝ }
-    ensures back { λ r. ⌜ ParametersBack params ⌝ }
+    ensures reads_back { λ r. ⌜ ((header : List ℕ) → length header ≡ 32 → ParametersBack params header) ⌝ }
 {
     let n = entries_size(params);
     if out.len() < n {

@@ -101,7 +101,7 @@ unfolding bitsOf modulo
 add-natural w a (pos b) f g = refl
 add-natural w a (negsuc b) f g = mixed (2 ^ bits w) a b (ltb a (suc b)) refl f (omega (arith, pow-bits w))
 
-add-wraps : (w : Width) (a b : ℤ) → SFits w a → SFits w b → (ofZ w a + ofZ w b) % 2 ^ bits w ≡ bitsOf (bits w) (a +ℤ b)
+pub add-wraps : (w : Width) (a b : ℤ) → SFits w a → SFits w b → (ofZ w a + ofZ w b) % 2 ^ bits w ≡ bitsOf (bits w) (a +ℤ b)
 unfolding bitsOf modulo
 add-wraps w (pos a) b f g = add-natural w a b (omega (arith, pow-bits w)) g
 add-wraps w (negsuc a) (pos b) f g =

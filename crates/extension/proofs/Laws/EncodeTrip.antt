@@ -3,24 +3,22 @@
 use mathlib.Core.Path.{_≡_, refl, ap, sym, _∙_, subst, subst⁻¹}
 use mathlib.Core.Bool.{Bool, true, false, cond}
 use mathlib.Core.List.{List, [], _∷_, _++_}
-use Prim.Native.Nat.{ℕ, zero, suc, _+_, _-_, _%_, _≤_, _<_}
+use Prim.Native.Nat.{ℕ, zero, suc, _+_, _-_, _≤_, _<_}
 use native.Mathlib.Omega.{arith}
 use borrow.Author.Tests.{le-ltb, ltb-false, ne-eqb, eqb-true, eqb-false}
 use lib.Dec.{ltb, eqb}
-use lib.IntN.{ℤ, pos, negsuc}
-use lib.Signed.{ltZ}
+use lib.IntN.{ℤ}
 use lib.ListN.{length, getD, length-append}
 use lib.Seq.{drop-append-seam, take-append-seam}
 use Rattle.codec.specs.Vlq.{vlqAt, vlqBytes}
-use Rattle.codec.specs.Rule.{ruleOf}
-use Rattle.codec.specs.Signed.{modulo, bitsOf, signedOf, wrapped}
+use Rattle.codec.specs.Rule.{ruleOf, offsetOf}
 use Rattle.codec.specs.Refusal.{updateUnreadable, mandatoryDisabled, inputLong}
 use Rattle.codec.specs.declared.vlq.Number.{Number}
 use Rattle.codec.specs.declared.vlq.Read.{Read}
 use Rattle.codec.specs.declared.vlq.Read.the-variants.{Value, Unreadable}
+use Rattle.codec.proofs.Laws.Rule.{offset-back}
 use Rattle.codec.proofs.Laws.VlqTrip.{read-inside, Inside}
 use Rattle.voting.specs.Common.{Each}
-use Rattle.voting.proofs.Laws.Tests.{neither}
 use Rattle.extension.specs.declared.section.Section.{Section}
 use Rattle.extension.specs.declared.section.Parsed.{Parsed}
 use Rattle.extension.specs.declared.update.StatusAt.{StatusAt}
@@ -30,7 +28,7 @@ use Rattle.extension.specs.declared.update.ParsedUpdate.{ParsedUpdate}
 use Rattle.extension.specs.Section.{Reading, got, bad, Listing, after, listing, items, closed, section, sectionItems, part, any}
 use Rattle.extension.specs.Mandatory.{mandatoryRule}
 use Rattle.extension.specs.Update.{Status, placedRule, ruleAt, ruleReading, readRule, placedStatus, offsetThen, statusAt, statusReading, readStatus, countIn, itemsFrom, noUpdate, refusedUpdate, withStatuses, withRules, updateOf, rulesIn, statusesIn}
-use Rattle.extension.specs.Encode.{offsetOf, rulesBytes, statusBytes, statusesBytes, encoded, statusList, lowRule, sum, idsOf, codesOf, sizesOf, allRaw, Short, nextOf, endOf, ShortRules, ShortStatuses, ShortUpdate, UpdateBack, UpdateAgain}
+use Rattle.extension.specs.Encode.{rulesBytes, statusBytes, statusesBytes, encoded, statusList, sum, idsOf, codesOf, sizesOf, allRaw, Short, nextOf, endOf, ShortRules, ShortStatuses, ShortUpdate, UpdateBack, UpdateAgain}
 use Rattle.extension.proofs.Laws.Parts.{part-length, part-join, part-all, part-cons}
 use Rattle.extension.proofs.Laws.Encode.{none-refused}
 
@@ -47,9 +45,9 @@ joined bytes [] = []
 joined bytes (x ∷ xs) = bytes x ++ joined bytes xs
 
 -- items whose bytes stand where they were read: what a reader answers at a position, and then at the next
-module _ {A : Type 0} (s : List ℕ) (read : ℕ → Reading A) (bytes : A → List ℕ) (Plain Fine : A → Type 0) where
+module _ {A : Type 0} (s : List ℕ) (read : ℕ → Reading A) (bytes : A → List ℕ) (Fine : A → Type 0) where
   abbrev Stands : ℕ → Reading A → Type 0
-  Stands at (got a next) = (Plain a → part s at next ≡ bytes a) × (at < next) × (next ≤ length s) × Fine a
+  Stands at (got a next) = (part s at next ≡ bytes a) × (at < next) × (next ≤ length s) × Fine a
   Stands at (bad e) = e ≡ 0 → ⊥
 
   abbrev pub Chain : ℕ → ℕ → Type 0
@@ -63,12 +61,12 @@ module _ {A : Type 0} (s : List ℕ) (read : ℕ → Reading A) (bytes : A → L
       many : length (items l) ≡ n
       least : at + n ≤ end
       within : end ≤ length s
-      bytes-are : Each Plain (items l) → part s at end ≡ joined bytes (items l)
+      bytes-are : part s at end ≡ joined bytes (items l)
       fine : Each Fine (items l)
 
     all-read : (n at : ℕ) → at ≤ length s → Chain n at → closed n₀ b₀ (listing read n at) .refusal ≡ 0 → AllRead n at (listing read n at)
     unfolding listing after closed items
-    all-read zero at h c e = record { end = at; is = refl; many = refl; least = omega arith; within = h; bytes-are = λ p. part-none s at; fine = tt }
+    all-read zero at h c e = record { end = at; is = refl; many = refl; least = omega arith; within = h; bytes-are = part-none s at; fine = tt }
     all-read (suc n) at h c e = go (read at) c e (λ k i d f. all-read n k i d f)
       where
         go : (g : Reading A) → Stands at g × Chain n (next-of g) → closed n₀ b₀ (after g (listing read n)) .refusal ≡ 0
@@ -81,7 +79,7 @@ module _ {A : Type 0} (s : List ℕ) (read : ℕ → Reading A) (bytes : A → L
               many = ap suc (r .many);
               least = omega (arith, c .0 .1, r .least);
               within = r .within;
-              bytes-are = λ p. sym (part-join s at next (r .end) (omega (arith, c .0 .1)) (omega (arith, r .least))) ∙ rw (c .0 .0 (p .0), r .bytes-are (p .1));
+              bytes-are = sym (part-join s at next (r .end) (omega (arith, c .0 .1)) (omega (arith, r .least))) ∙ rw (c .0 .0, r .bytes-are);
               fine = (c .0 .3, r .fine);
             }
         go (bad m) c e more = absurd (c .0 e)
@@ -166,18 +164,14 @@ module _ (s : List ℕ) where
 abbrev Any : {A : Type 0} → A → Type 0
 Any x = Unit {0}
 
-each-any : {A : Type 0} (xs : List A) → Each Any xs
-each-any [] = tt
-each-any (x ∷ xs) = (tt, each-any xs)
-
-rules-chain : (s : List ℕ) (n at : ℕ) → ShortRules n s at → Chain s (readRule s) vlqBytes Any Any n at
+rules-chain : (s : List ℕ) (n at : ℕ) → ShortRules n s at → Chain s (readRule s) vlqBytes Any n at
 unfolding readRule ruleAt placedRule ruleReading
 rules-chain s zero at h = tt
 rules-chain s (suc n) at h = go (vlqAt 16 s at) refl h (λ k g. rules-chain s n k g)
   where
-    go : (x : Read) → x ≡ vlqAt 16 s at → Short s at x × ShortRules n s (nextOf x) → ((k : ℕ) → ShortRules n s k → Chain s (readRule s) vlqBytes Any Any n k)
-        → Stands s (readRule s) vlqBytes Any Any at (ruleReading (placedRule x)) × Chain s (readRule s) vlqBytes Any Any n (next-of (ruleReading (placedRule x)))
-    go (Value m) q h more = let i = read-inside 16 at s m q in ((λ p. h .0, i .after, i .inside, tt), more (m .next) (h .1))
+    go : (x : Read) → x ≡ vlqAt 16 s at → Short s at x × ShortRules n s (nextOf x) → ((k : ℕ) → ShortRules n s k → Chain s (readRule s) vlqBytes Any n k)
+        → Stands s (readRule s) vlqBytes Any at (ruleReading (placedRule x)) × Chain s (readRule s) vlqBytes Any n (next-of (ruleReading (placedRule x)))
+    go (Value m) q h more = let i = read-inside 16 at s m q in ((h .0, i .after, i .inside, tt), more (m .next) (h .1))
     go Unreadable q h more = ((λ e. omega arith), more 0 (h .1))
 
 rules-joined : (rules : List ℕ) → joined vlqBytes rules ≡ rulesBytes rules
@@ -185,52 +179,35 @@ unfolding rulesBytes
 rules-joined [] = refl
 rules-joined (r ∷ rules) = ap (λ (t : List ℕ). vlqBytes r ++ t) (rules-joined rules)
 
--- statuses in shortest form too, where the rule id is not low
-abbrev Plain : Status → Type 0
-Plain x = lowRule (x .rule) ≡ false
-
+-- statuses in shortest form too
 abbrev Fine : Status → Type 0
 Fine x = length (x .raw) ≤ 65535
 
-each-plain : (xs : List Status) → any lowRule (idsOf xs) ≡ false → Each Plain xs
-unfolding any idsOf
-each-plain [] h = tt
-each-plain (x ∷ xs) h = let p = neither (lowRule (x .rule)) (any lowRule (idsOf xs)) h in (p .0, each-plain xs (p .1))
-
-offset-back : (v : ℕ) → v < 65536 → lowRule (ruleOf v) ≡ false → offsetOf (ruleOf v) ≡ v
-unfolding lowRule ruleOf wrapped bitsOf modulo signedOf offsetOf
-offset-back v h = go (ltb ((v + 1000) % 65536) 32768)
-  where
-    go : (t : Bool) → ltZ (cond t (pos ((v + 1000) % 65536)) (negsuc (65536 - suc ((v + 1000) % 65536)))) (pos 1000) ≡ false
-        → offsetOf (cond t (pos ((v + 1000) % 65536)) (negsuc (65536 - suc ((v + 1000) % 65536)))) ≡ v
-    go true e = omega (arith, ltb-false ((v + 1000) % 65536) 1000 e)
-    go false e = absurd (let z : _≡_ {A = ℕ} 0 1 = cc in omega arith)
-
 status-stands : (s : List ℕ) (at : ℕ) (m k : Number) → Inside 16 (length s) at m → Inside 16 (length s) (m .next) k
-    → part s at (m .next) ≡ vlqBytes (m .value) → part s (m .next) (k .next) ≡ vlqBytes (k .value) → k .next + 1 + k .value ≤ length s → lowRule (ruleOf (m .value)) ≡ false
+    → part s at (m .next) ≡ vlqBytes (m .value) → part s (m .next) (k .next) ≡ vlqBytes (k .value) → k .next + 1 + k .value ≤ length s
     → part s at (k .next + 1 + k .value) ≡ statusBytes (record { rule = ruleOf (m .value); code = getD s (k .next) 0; raw = part s (k .next + 1) (k .next + 1 + k .value) })
 unfolding statusBytes
-status-stands s at m k i j p q h low =
+status-stands s at m k i j p q h =
     let end = k .next + 1 + k .value in
     let l : length (part s (k .next + 1) end) ≡ k .value = part-length s (k .next + 1) end h ∙ omega arith in
-    let o : offsetOf (ruleOf (m .value)) ≡ m .value = offset-back (m .value) (i .value-fits) low in
+    let o : offsetOf (ruleOf (m .value)) ≡ m .value = offset-back (m .value) (i .value-fits) in
     let c = part-cons s (k .next) (k .value) (omega arith) in
     rw (o, l, ← p, ← q, ← c, part-join s at (m .next) (k .next) (omega (arith, i .after)) (omega (arith, j .after)))
     (sym (part-join s at (k .next) end (omega (arith, i .after, j .after)) (omega arith)))
 
-statuses-chain : (s : List ℕ) (n at : ℕ) → ShortStatuses n s at → Chain s (readStatus s) statusBytes Plain Fine n at
+statuses-chain : (s : List ℕ) (n at : ℕ) → ShortStatuses n s at → Chain s (readStatus s) statusBytes Fine n at
 unfolding readStatus statusAt offsetThen placedStatus statusReading
 statuses-chain s zero at h = tt
 statuses-chain s (suc n) at h = go (vlqAt 16 s at) refl (h .0) (h .1) (h .2) (λ k g. statuses-chain s n k g)
   where
     Next : StatusAt → Type 0
-    Next x = Stands s (readStatus s) statusBytes Plain Fine at (statusReading s x) × Chain s (readStatus s) statusBytes Plain Fine n (next-of (statusReading s x))
+    Next x = Stands s (readStatus s) statusBytes Fine at (statusReading s x) × Chain s (readStatus s) statusBytes Fine n (next-of (statusReading s x))
 
     cut : (m k : Number) (b : Bool) → ltb (length s) (k .next + 1 + k .value) ≡ b → Inside 16 (length s) at m → Inside 16 (length s) (m .next) k
         → part s at (m .next) ≡ vlqBytes (m .value) → part s (m .next) (k .next) ≡ vlqBytes (k .value)
         → ShortStatuses n s (endOf (cond b (NoStatus updateUnreadable)
         (HasStatus (record { rule = record { 0 = ruleOf (m .value) }; code = getD s (k .next) 0; start = k .next + 1; end = k .next + 1 + k .value }))))
-        → ((a : ℕ) → ShortStatuses n s a → Chain s (readStatus s) statusBytes Plain Fine n a)
+        → ((a : ℕ) → ShortStatuses n s a → Chain s (readStatus s) statusBytes Fine n a)
         → Next (cond b (NoStatus updateUnreadable) (HasStatus (record { rule = record { 0 = ruleOf (m .value) }; code = getD s (k .next) 0; start = k .next + 1; end = k .next + 1 + k .value })))
     cut m k true t i j p q h more = ((λ e. omega arith), more 0 h)
     cut m k false t i j p q h more =
@@ -245,13 +222,13 @@ statuses-chain s (suc n) at h = go (vlqAt 16 s at) refl (h .0) (h .1) (h .2) (λ
         )
 
     size : (m : Number) (y : Read) → y ≡ vlqAt 16 s (m .next) → Inside 16 (length s) at m → part s at (m .next) ≡ vlqBytes (m .value) → Short s (m .next) y
-        → ShortStatuses n s (endOf (placedStatus s (ruleOf (m .value)) y)) → ((a : ℕ) → ShortStatuses n s a → Chain s (readStatus s) statusBytes Plain Fine n a)
+        → ShortStatuses n s (endOf (placedStatus s (ruleOf (m .value)) y)) → ((a : ℕ) → ShortStatuses n s a → Chain s (readStatus s) statusBytes Fine n a)
         → Next (placedStatus s (ruleOf (m .value)) y)
     size m (Value k) e i p q h more = cut m k (ltb (length s) (k .next + 1 + k .value)) refl i (read-inside 16 (m .next) s k e) p q h more
     size m Unreadable e i p q h more = ((λ e. omega arith), more 0 h)
 
     go : (x : Read) → x ≡ vlqAt 16 s at → Short s at x → Short s (nextOf x) (vlqAt 16 s (nextOf x)) → ShortStatuses n s (endOf (offsetThen s x))
-        → ((a : ℕ) → ShortStatuses n s a → Chain s (readStatus s) statusBytes Plain Fine n a) → Next (offsetThen s x)
+        → ((a : ℕ) → ShortStatuses n s a → Chain s (readStatus s) statusBytes Fine n a) → Next (offsetThen s x)
     go (Value m) e p q h more = size m (vlqAt 16 s (m .next)) refl (read-inside 16 at s m e) p q h more
     go Unreadable e p q h more = ((λ e. omega arith), more 0 h)
 
@@ -299,11 +276,11 @@ module _ (s : List ℕ) (m₁ m₂ : Number) (end₁ end₂ : ℕ) where
     i₂ : Inside 32 (length s) end₁ m₂
     i₂ = read-inside 32 end₁ s m₂ (sym q₂)
 
-    r₁ : AllRead s (readRule s) vlqBytes Any Any n₁ (m₁ .next) n₁ (m₁ .next) (listing (readRule s) n₁ (m₁ .next))
-    r₁ = all-read s (readRule s) vlqBytes Any Any n₁ (m₁ .next) n₁ (m₁ .next) (i₁ .inside) (rules-chain s n₁ (m₁ .next) (h .rules-short)) (ap (λ (p : Parsed). p .refusal) c₁)
+    r₁ : AllRead s (readRule s) vlqBytes Any n₁ (m₁ .next) n₁ (m₁ .next) (listing (readRule s) n₁ (m₁ .next))
+    r₁ = all-read s (readRule s) vlqBytes Any n₁ (m₁ .next) n₁ (m₁ .next) (i₁ .inside) (rules-chain s n₁ (m₁ .next) (h .rules-short)) (ap (λ (p : Parsed). p .refusal) c₁)
 
-    r₂ : AllRead s (readStatus s) statusBytes Plain Fine n₂ (m₂ .next) n₂ (m₂ .next) (listing (readStatus s) n₂ (m₂ .next))
-    r₂ = all-read s (readStatus s) statusBytes Plain Fine n₂ (m₂ .next) n₂ (m₂ .next) (i₂ .inside) (statuses-chain s n₂ (m₂ .next) (h .statuses-short)) (ap (λ (p : Parsed). p .refusal) c₂)
+    r₂ : AllRead s (readStatus s) statusBytes Fine n₂ (m₂ .next) n₂ (m₂ .next) (listing (readStatus s) n₂ (m₂ .next))
+    r₂ = all-read s (readStatus s) statusBytes Fine n₂ (m₂ .next) n₂ (m₂ .next) (i₂ .inside) (statuses-chain s n₂ (m₂ .next) (h .statuses-short)) (ap (λ (p : Parsed). p .refusal) c₂)
 
     end-is₁ : r₁ .end ≡ end₁
     end-is₁ = ap (λ (p : Parsed). p .section .end) (sym (r₁ .is) ∙ c₁)
@@ -323,13 +300,13 @@ module _ (s : List ℕ) (m₁ m₂ : Number) (end₁ end₂ : ℕ) where
     unfolding rulesIn sectionItems
     bytes₁ =
         let l = items (listing (readRule s) n₁ (m₁ .next)) in
-        ap (part s (m₁ .next)) (sym end-is₁) ∙ r₁ .bytes-are (each-any l) ∙ rules-joined l
+        ap (part s (m₁ .next)) (sym end-is₁) ∙ r₁ .bytes-are ∙ rules-joined l
 
     bytes₂ : part s (m₂ .next) end₂ ≡ statusesBytes (statusesIn s apart)
     unfolding statusesIn sectionItems
     bytes₂ =
         let l = items (listing (readStatus s) n₂ (m₂ .next)) in
-        ap (part s (m₂ .next)) (sym end-is₂) ∙ r₂ .bytes-are (each-plain l (h .none-low)) ∙ statuses-joined l
+        ap (part s (m₂ .next)) (sym end-is₂) ∙ r₂ .bytes-are ∙ statuses-joined l
 
     fine₂ : Each Fine (statusesIn s apart)
     unfolding statusesIn sectionItems

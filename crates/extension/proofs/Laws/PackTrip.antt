@@ -30,7 +30,7 @@ use Rattle.extension.specs.declared.parameters.ParameterMap.{ParameterMa
 use Rattle.extension.specs.Section.{got, bad, Listing, done, item, listing, items, refusalOf, section, closed, part, any}
 use Rattle.extension.specs.Body.{Field, fieldAt, fieldReading, readField, extensionOf, headerId}
 use Rattle.extension.specs.Parameters.{entryOf}
-use Rattle.extension.specs.Pack.{wireList, wireFields, longValue, surveyed, surveyRefusal, packRefusal, packed, BodyBack, BodyAgain}
+use Rattle.extension.specs.Pack.{wireList, wireFields, longValue, packRefusal, packed, BodyBack, BodyAgain}
 use Rattle.extension.proofs.Laws.Section.{listing-none, listing-stop, listing-item}
 use Rattle.extension.proofs.Laws.Body.{Opened, opened}
 use Rattle.extension.proofs.Laws.Pack.{sizeAt, fieldThere, wire-here, value-length, wire-none, wire-end, wire-item}
@@ -65,7 +65,7 @@ wire-past s zero at h = subst⁻¹ (Lists []) (wire-none s 0 at (omega arith)) (
 wire-past s (suc k) at h = subst⁻¹ (Lists []) (wire-end s (suc k) at (omega arith) h) (refl, refl)
 
 pub fine : (l : Listing Field) (fs : List Field) → Lists fs l → length fs ≤ 65536 → any longValue fs ≡ false → packRefusal l ≡ 0
-unfolding packRefusal surveyRefusal surveyed
+unfolding packRefusal
 fine l fs e h a = rw (e .0, le-ltb 65536 (length fs) h, a) (e .1)
 
 -- A body that was read, and packed again. What a body's reader may meet at a position.

@@ -30,6 +30,7 @@ use Rattle.extension.specs.Body.{Field, fieldAt, fieldReading, readField
 use Rattle.extension.specs.Mandatory.{mandatoryRule}
 use Rattle.extension.specs.Update.{Status, placedRule, ruleAt, ruleReading, readRule, placedStatus, offsetThen, statusAt, statusReading, readStatus, countIn, itemsFrom, noUpdate, refusedUpdate, withStatuses, withRules, updateOf, disables}
 use Rattle.extension.specs.Boundary.{activates, withUpdate, computedOf}
+use Rattle.extension.proofs.Laws.Body.{check-body-by}
 
 -- a list of items, by the refusals of one
 abbrev Unlike : {A : Type 0} → Reading A → Type 0

@@ -1,46 +1,34 @@
 -- Settings updates written, item by item: the tests before, the sizes, and the stores.
 -- Assumes nothing.
-use mathlib.Core.Path.{_≡_, refl, ap, sym, _∙_, subst⁻¹}
+use mathlib.Core.Path.{_≡_, refl, ap, sym, _∙_}
 use mathlib.Core.Bool.{Bool, true, false, cond, _&&_, _||_}
 use mathlib.Core.List.{List, [], _∷_, _++_, append-nil}
 use Prim.Native.Nat.{ℕ, suc, _+_, _-_, _^_, _≤_, _<_}
 use native.Mathlib.Nat.{zero-add}
 use native.Mathlib.Numerals.{add-one}
 use native.Mathlib.Omega.{arith}
-use borrow.Author.Tests.{lt-ltb, le-ltb, ltb-true, ltb-false, eq-eqb, ne-eqb, eqb-true}
-use lib.Dec.{T, ltb, eqb}
-use lib.IntN.{ℤ, pos, negsuc, _-ℤ_, natAbs}
-use lib.Signed.{ltZ, nonNeg}
+use borrow.Author.Tests.{lt-ltb, le-ltb, ltb-false, eq-eqb, ne-eqb, eqb-true}
+use lib.Dec.{ltb, eqb}
+use lib.IntN.{ℤ, pos, negsuc}
+use lib.Signed.{ltZ}
 use lib.ListN.{length, take, drop, getD, set, drop-of-length-le, length-append, length-drop}
 use lib.Seq.{drop-cons, drop-drop, length-take-le, sets}
-use mir.Syntax.{w16, w64}
-use mir.Val.{SFits, Fits, ofZ, toZ}
+use mir.Syntax.{w16}
+use mir.Val.{SFits, ofZ, toZ}
 use mir.ValLaws.{toZ-ofZ}
 use Rattle.codec.specs.Output.{refused, writes, writing}
 use Rattle.codec.specs.Refusal.{updateUnreadable, inputLong, statusRuleLow}
+use Rattle.codec.specs.Rule.{offsetOf}
 use Rattle.codec.specs.Vlq.{vlqBytes, shortestOf}
 use Rattle.codec.proofs.Laws.Output.{sets-append, writing-stop, writing-go}
 use Rattle.codec.proofs.Laws.VlqTrip.{at-most-ten}
 use Rattle.voting.proofs.Laws.Tests.{both, neither}
 use Rattle.extension.specs.Section.{any}
 use Rattle.extension.specs.Update.{Status}
-use Rattle.extension.proofs.Laws.Section.{any-here, any-next}
-use Rattle.extension.specs.Encode.{offsetOf, rulesBytes, statusBytes, statusesBytes, encoded, statusList, sum, agree, lowRule, tooLarge, encodeRefusal}
+use Rattle.extension.specs.Encode.{rulesBytes, statusBytes, statusesBytes, encoded, statusList, sum, agree, lowRule, tooLarge, encodeRefusal}
 use Rattle.extension.proofs.Laws.Encode.{large-is}
 use Rattle.writers.specs.Encode.{statusesSize, encodeUpdate, encodeRules}
-
--- an element that passes a test, from a position on
-module _ {A : Type 0} (p : A → Bool) (xs : List A) (i : ℕ) where
-  pub any-end : length xs ≤ i → any p (drop i xs) ≡ false
-  unfolding any
-  any-end h = rw (drop-of-length-le xs h)
-
-  module _ (d : A) (h : i < length xs) where
-    pub any-found : p (getD xs i d) ≡ true → any p (drop i xs) ≡ true
-    any-found e = rw (drop-cons xs i d h) (any-here p (getD xs i d) (drop (suc i) xs) e)
-
-    pub any-past : p (getD xs i d) ≡ false → any p (drop i xs) ≡ any p (drop (i + 1) xs)
-    any-past e = rw (drop-cons xs i d h, add-one) (any-next p (getD xs i d) (drop (suc i) xs) e)
+use Rattle.writers.proofs.Laws.Sizes.{sum-here}
 
 -- the test of one rule id
 pub low-test : (id : ℤ) (b : Bool) → SFits w16 id → ltZ (toZ w16 (ofZ w16 id)) (pos 1000) ≡ b → lowRule id ≡ b
@@ -51,16 +39,6 @@ low-test id b f e = ap (λ (z : ℤ). ltZ z (pos 1000)) (sym (toZ-ofZ w16 id f))
 pub not-high : (id : ℤ) → SFits w16 id → ltZ (pos 32767) id ≡ false
 not-high (pos n) f = le-ltb 32767 n (omega (arith, f .sfits))
 not-high (negsuc n) f = refl
-
--- the sum of the sizes, from a position on
-module _ (ns : List ℕ) (i : ℕ) where
-  pub sum-end : length ns ≤ i → sum (drop i ns) ≡ 0
-  unfolding sum
-  sum-end h = rw (drop-of-length-le ns h)
-
-  pub sum-here : i < length ns → sum (drop i ns) ≡ getD ns i 0 + sum (drop (i + 1) ns)
-  unfolding sum
-  sum-here h = rw (drop-cons ns i 0 h, add-one)
 
 -- the rules, from a position on
 module _ (rules : List ℕ) (i : ℕ) where
@@ -79,39 +57,6 @@ module _ (rules : List ℕ) (i : ℕ) where
     pub rules-put : (cells : List ℕ) (k : ℕ)
         → sets cells k (rulesBytes (drop i rules)) ≡ sets (sets cells k (vlqBytes (getD rules i 0))) (k + length (vlqBytes (getD rules i 0))) (rulesBytes (drop (i + 1) rules))
     rules-put cells k = rw rules-here (sets-append (vlqBytes (getD rules i 0)) (rulesBytes (drop (i + 1) rules)) cells k)
-
--- the offset of a rule id, by its test
-module _ (id : ℤ) (f : SFits w16 id) where
-  below-first : (z : ℤ) → ltZ z (pos 1000) ≡ true → 0 ≡ offsetOf z
-  unfolding offsetOf
-  below-first (pos n) e = omega (arith, ltb-true n 1000 e)
-  below-first (negsuc n) e = refl
-
-  pub offset-low : ltZ (toZ w16 (ofZ w16 id)) (pos 1000) ≡ true → 0 ≡ offsetOf id
-  offset-low e = below-first id (ap (λ (z : ℤ). ltZ z (pos 1000)) (sym (toZ-ofZ w16 id f)) ∙ e)
-
-  minus-first : (z : ℤ) → SFits w16 z → ltZ z (pos 1000) ≡ false → (z -ℤ pos 1000 ≡ pos (offsetOf z)) × (offsetOf z < 2 ^ 15)
-  unfolding offsetOf
-  minus-first (pos n) g e = let h : 1000 ≤ n = ltb-false n 1000 e in (rw (le-ltb n 1000 h), omega (arith, g .sfits))
-  minus-first (negsuc n) g e = absurd (let z : _≡_ {A = ℕ} 0 1 = cc in omega arith)
-
-  module _ (e : ltZ (toZ w16 (ofZ w16 id)) (pos 1000) ≡ false) where
-    minus-is : (toZ w16 (ofZ w16 id) -ℤ pos 1000 ≡ pos (offsetOf id)) × (offsetOf id < 2 ^ 15)
-    minus-is =
-        let m = minus-first id f (ap (λ (z : ℤ). ltZ z (pos 1000)) (sym (toZ-ofZ w16 id f)) ∙ e) in
-        (ap (λ (z : ℤ). z -ℤ pos 1000) (toZ-ofZ w16 id f) ∙ m .0, m .1)
-
-    pub offset-fits : SFits w16 (toZ w16 (ofZ w16 id) -ℤ pos 1000)
-    offset-fits = subst⁻¹ (SFits w16) (minus-is .0) (record { sfits = minus-is .1 })
-
-    offset-back : toZ w16 (ofZ w16 (toZ w16 (ofZ w16 id) -ℤ pos 1000)) ≡ pos (offsetOf id)
-    offset-back = toZ-ofZ w16 (toZ w16 (ofZ w16 id) -ℤ pos 1000) offset-fits ∙ minus-is .0
-
-    pub offset-cast : let z = toZ w16 (ofZ w16 (toZ w16 (ofZ w16 id) -ℤ pos 1000)) in T (nonNeg z) × Fits w64 (natAbs z)
-    offset-cast = subst⁻¹ (λ (z : ℤ). T (nonNeg z) × Fits w64 (natAbs z)) offset-back (tt, record { fits = omega (arith, minus-is .1) })
-
-    pub offset-is : natAbs (toZ w16 (ofZ w16 (toZ w16 (ofZ w16 id) -ℤ pos 1000))) ≡ offsetOf id
-    offset-is = ap natAbs offset-back
 
 -- the size of the statuses, from a position on
 module _ (ids : List ℤ) (sizes : List ℕ) (i : ℕ) where

@@ -3,20 +3,21 @@
 use mathlib.Core.Path.{_≡_, refl, ap, sym, _∙_}
 use mathlib.Core.Bool.{false}
 use mathlib.Core.List.{List, [], _∷_, _++_, append-nil, append-assoc}
-use Prim.Native.Nat.{ℕ, zero, suc, _+_, _-_, _^_, _≤_, _<_}
+use Prim.Native.Nat.{ℕ, suc, _+_, _-_, _^_, _≤_, _<_}
 use native.Mathlib.Nat.{add-zero}
 use native.Mathlib.Omega.{arith}
 use borrow.Author.Tests.{lt-ltb, le-ltb, ltb-false, ne-eqb}
 use lib.Dec.{ltb}
 use lib.IntN.{ℤ, pos, negsuc}
 use lib.Signed.{ltZ}
-use lib.ListN.{length, take, drop, getD, length-append, length-drop}
+use lib.ListN.{length, drop, getD, length-append, length-drop}
 use lib.Seq.{take-append-seam, getD-drop}
 use mir.Syntax.{w16}
+use mir.Val.{SFits}
 use Rattle.codec.specs.Vlq.{vlqAt, vlqBytes}
-use Rattle.codec.specs.Rule.{ruleOf}
+use Rattle.codec.specs.Rule.{offsetOf}
 use Rattle.codec.specs.declared.vlq.Read.the-variants.{Value}
-use Rattle.codec.proofs.Laws.Signed.{wraps-to}
+use Rattle.codec.proofs.Laws.Rule.{offset-fits, rule-back}
 use Rattle.codec.proofs.Laws.VlqTrip.{written-read-at, read-inside}
 use Rattle.voting.specs.Common.{Each}
 use Rattle.voting.proofs.Laws.Tests.{neither}
@@ -26,8 +27,9 @@ use Rattle.extension.specs.Section.{Reading, got, Listing, done, item, after, l
 use Rattle.extension.specs.Mandatory.{mandatoryRule}
 use Rattle.extension.specs.Update.{Status, placedRule, ruleAt, ruleReading, readRule, placedStatus, offsetThen, statusAt, statusReading, readStatus, countIn, itemsFrom, withStatuses, withRules, updateOf, rulesIn, statusesIn}
 use Rattle.extension.proofs.Laws.Parts.{drop-past}
-use Rattle.extension.specs.Encode.{offsetOf, rulesBytes, statusBytes, statusesBytes, encoded, statusList, lowRule, encodeRefusal}
+use Rattle.extension.specs.Encode.{rulesBytes, statusBytes, statusesBytes, encoded, statusList, lowRule, encodeRefusal}
 use Rattle.writers.specs.Encode.{EncodedAgain}
+use Rattle.writers.proofs.Laws.Sizes.{take-most}
 use Rattle.writers.proofs.Laws.Encode.{status-length, agreed, statuses-count, accepted}
 
 -- items that were all read, up to an end
@@ -73,14 +75,10 @@ rules-listed (r ∷ rules) at s t h e =
 abbrev pub Writable : Status → Type 0
 Writable x = (lowRule (x .rule) ≡ false) × (ltZ (pos 32767) (x .rule) ≡ false) × (length (x .raw) ≤ 65535)
 
-rule-back : (z : ℤ) → lowRule z ≡ false → ltZ (pos 32767) z ≡ false → (ruleOf (offsetOf z) ≡ z) × (offsetOf z < 65536)
-unfolding lowRule offsetOf ruleOf
-rule-back (pos n) e f =
-    let h : 1000 ≤ n = ltb-false n 1000 e in
-    let k : n ≤ 32767 = ltb-false 32767 n f in
-    let q : n - 1000 + 1000 ≡ n = omega arith in
-    (rw q (wraps-to w16 (pos n) (record { sfits = omega arith })), omega arith)
-rule-back (negsuc n) e f = absurd (let z : _≡_ {A = ℕ} 0 1 = cc in omega arith)
+rule-fits : (z : ℤ) → lowRule z ≡ false → ltZ (pos 32767) z ≡ false → SFits w16 z
+unfolding lowRule
+rule-fits (pos n) e f = record { sfits = omega (arith, ltb-false 32767 n f) }
+rule-fits (negsuc n) e f = absurd (let z : _≡_ {A = ℕ} 0 1 = cc in omega arith)
 
 -- a status where the offset and the size were read
 status-at : (rule : ℤ) (code m : ℕ) (raw s t : List ℕ) → drop m s ≡ code ∷ (raw ++ t)
@@ -99,15 +97,15 @@ status-read x at s t h e =
     let a = vlqBytes (offsetOf (x .rule)) in
     let b = vlqBytes (length (x .raw)) in
     let c = x .code ∷ x .raw in
-    let r = rule-back (x .rule) (h .0) (h .1) in
+    let f = rule-fits (x .rule) (h .0) (h .1) in
     let e₁ : drop at s ≡ a ++ (b ++ (c ++ t)) = e ∙ append-assoc (a ++ b) c t ∙ append-assoc a b (c ++ t) in
     let e₂ : drop (at + length a) s ≡ b ++ (c ++ t) = drop-past at s a (b ++ (c ++ t)) e₁ in
     let e₃ : drop (at + length a + length b) s ≡ c ++ t = drop-past (at + length a) s b (c ++ t) e₂ in
     let l : at + length a + length b + 1 + length (x .raw) ≡ at + length (statusBytes x) = omega (arith, status-length x) in
     rw (
-      written-read-at 16 (offsetOf (x .rule)) at s (b ++ (c ++ t)) (omega arith) (r .1) e₁,
+      written-read-at 16 (offsetOf (x .rule)) at s (b ++ (c ++ t)) (omega arith) (offset-fits (x .rule) f) e₁,
       written-read-at 16 (length (x .raw)) (at + length a) s (c ++ t) (omega arith) (omega (arith, h .2)) e₂,
-      r .0,
+      rule-back (x .rule) f,
       ← l,
     )
     (status-at (x .rule) (x .code) (at + length a + length b) (x .raw) s t e₃)
@@ -202,11 +200,6 @@ module _ (rules : List ℕ) (statuses : List Status) (small : Each (λ r. r < 65
 each-small : (xs : List ℕ) → ((i : ℕ) → getD xs i 0 < 65536) → Each (λ r. r < 65536) xs
 each-small [] h = tt
 each-small (x ∷ xs) h = (h 0, each-small xs (λ i. h (suc i)))
-
-take-most : (n : ℕ) (xs : List ℕ) → length (take n xs) ≤ n
-take-most zero xs = omega arith
-take-most (suc n) [] = omega arith
-take-most (suc n) (x ∷ xs) = omega (arith, take-most n xs)
 
 statuses-fit : (ids : List ℤ) (codes sizes raw : List ℕ) → any lowRule ids ≡ false → any (ltZ (pos 32767)) ids ≡ false → any (ltb 65535) sizes ≡ false
     → Each Writable (statusList ids codes sizes raw)

@@ -3,7 +3,7 @@
 use mathlib.Core.Path.{_≡_, refl, sym, ap, _∙_}
 use mathlib.Core.Bool.{Bool, true, false, cond, _||_}
 use mathlib.Core.List.{List, [], _∷_, _++_}
-use Prim.Native.Nat.{ℕ, zero, suc, _+_, _-_, _%_, _≤_, _<_}
+use Prim.Native.Nat.{ℕ, zero, suc, _+_, _-_, _*_, _%_, _≤_, _<_}
 use native.Mathlib.Nat.{add-zero, zero-add}
 use native.Mathlib.Numerals.{sub-one}
 use native.Mathlib.Omega.{arith}
@@ -23,14 +23,15 @@ use Rattle.codec.specs.Output.{wrote, refused, writes, writing}
 use Rattle.codec.proofs.Laws.Output as output
 use Rattle.voting.specs.declared.table.Value.{Value}
 use Rattle.voting.specs.declared.table.Value.the-variants.{Absent, Number}
-use Rattle.extension.specs.declared.body.Survey.{Survey}
 use Rattle.extension.specs.declared.parameters.ParameterMap.{ParameterMap}
 use Rattle.extension.specs.Section.{Listing, done, stop, item, after, items, refusalOf, any}
 use Rattle.extension.specs.Body.{Field}
 use Rattle.extension.specs.Parameters.{entryOf}
-use Rattle.extension.specs.Pack.{wireList, wireFields, longValue, surveyed, surveyRefusal, packRefusal, packed}
+use Rattle.extension.specs.Pack.{wireList, wireFields, longValue, packRefusal, packed}
 use Rattle.extension.proofs.Laws.Pack.{sizeAt, fieldThere, wire-header-cut, wire-value-cut, wire-here, value-length, wire-none, wire-end, wire-stop, wire-item}
-use Rattle.writers.specs.Pack.{packExtension, entryBytes, entriesFrom}
+use Rattle.writers.specs.declared.pack.Survey.{Survey}
+use Rattle.writers.specs.Survey.{surveyed, surveyRefusal}
+use Rattle.writers.specs.Pack.{packExtension, numberBytes, entryBytes, entriesFrom}
 
 -- the survey of a list of fields, after so many fields before it, of which one was long or none
 unfoldable pub surveyedOn : ℕ → Bool → Listing Field → Survey
@@ -87,7 +88,12 @@ module _ (s : List ℕ) (left at count : ℕ) (long : Bool) where
           survey-item count long (fieldThere s at) (wireList (left - 1) s (at + 3 + sizeAt s at)) ∙
           ap (λ (n : ℕ). surveyedOn (count + 1) (long || ltb 64 n) (wireList (left - 1) s (at + 3 + sizeAt s at))) (value-length s at i)
 
--- the refusal of a survey
+-- the refusal of a survey is the refusal of the list
+pub survey-refusal : (l : Listing Field) → surveyRefusal (surveyed l) ≡ packRefusal l
+unfolding surveyRefusal surveyed packRefusal
+survey-refusal l = refl
+
+-- the refusal of a survey, test by test
 module _ (w : Survey) where
   pub many-fields : 65536 < w .count → inputLong ≡ surveyRefusal w
   unfolding surveyRefusal
@@ -105,8 +111,7 @@ module _ (w : Survey) where
 -- a body's outcome, by the survey of its fields and the tests of the buffer's length
 module _ (id fields cells : List ℕ) {w : Survey} {e : ℕ} (is-w : w ≡ surveyed (wireFields fields)) (is-e : e ≡ surveyRefusal w) where
   is-refusal : e ≡ packRefusal (wireFields fields)
-  unfolding packRefusal
-  is-refusal = is-e ∙ ap surveyRefusal is-w
+  is-refusal = is-e ∙ ap surveyRefusal is-w ∙ survey-refusal (wireFields fields)
 
   pub pack-refused : (e ≡ 0 → ⊥) → refused e cells ≡ packExtension id fields cells
   unfolding packExtension
@@ -151,7 +156,7 @@ module _ (id : ℕ) where
   unfolding entryBytes
   entry-dropped v x e q = rw (e, eq-eqb id 124 q)
 
-  pub entry-number : (v : Value) (x : ℤ) → v ≡ Number x → (id ≡ 124 → ⊥) → entryBytes id v ≡ 0 ∷ id ∷ 4 ∷ bigEndianBytes 4 (bitsOf 32 x)
+  pub entry-number : (v : Value) (x : ℤ) → v ≡ Number x → (id ≡ 124 → ⊥) → entryBytes id v ≡ numberBytes id x
   unfolding entryBytes
   entry-number v x e q = rw (e, ne-eqb id 124 q)
 
@@ -159,22 +164,23 @@ module _ (id : ℕ) where
   unfolding bigEndianBytes
   entry-seven v x e q = rw (entry-number v x e q)
 
-  -- the four bytes b of the number, stored one by one
-  pub entry-stored : (v : Value) (x : ℤ) → SFits w32 x → v ≡ Number x → (id ≡ 124 → ⊥) → {b : List ℕ} → b ≡ bigEndianBytes 4 (bitsOf 32 (toZ w32 (ofZ w32 x))) → (cells : List ℕ) (at : ℕ)
-      → sets cells at (0 ∷ id ∷ 4 ∷ getD b 0 0 ∷ getD b 1 0 ∷ getD b 2 0 ∷ getD b 3 0 ∷ []) ≡ sets cells at (entryBytes id v)
-  unfolding bigEndianBytes
-  entry-stored v x f e q {b} p cells at =
-      let is-b : b ≡ bigEndianBytes 4 (bitsOf 32 x) = p ∙ ap (λ (z : ℤ). bigEndianBytes 4 (bitsOf 32 z)) (toZ-ofZ w32 x f) in
-      rw (is-b, entry-number v x e q)
-
   pub entry-most : (v : Value) → length (entryBytes id v) ≤ 7
   unfolding entryBytes bigEndianBytes
   entry-most Absent = omega arith
   entry-most (Number x) = go (eqb id 124)
     where
-      go : (t : Bool) → length (cond t [] (0 ∷ id ∷ 4 ∷ bigEndianBytes 4 (bitsOf 32 x))) ≤ 7
+      go : (t : Bool) → length (cond t [] (numberBytes id x)) ≤ 7
       go true = omega arith
       go false = omega arith
+
+-- n parameters have at most seven bytes each
+pub entries-most : (m : ParameterMap) (n id : ℕ) → length (entriesFrom n id m) ≤ 7 * n
+unfolding entriesFrom
+entries-most m zero id = omega arith
+entries-most m (suc n) id =
+    let next = (id + 1) % 256 in
+    let e = length-append (entryBytes id (entryOf m id)) (entriesFrom n next m) in
+    omega (arith, e, entry-most id (entryOf m id), entries-most m n next)
 
 -- the parameters from one id on, n of them: none, or one and then the others
 module _ (m : ParameterMap) (n id : ℕ) where

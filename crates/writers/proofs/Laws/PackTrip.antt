@@ -1,8 +1,8 @@
 -- Bodies and parameters there and back: a packed body is read as the fields that were handed over, and parameters that were written are
 -- read back.
 -- Assumes nothing.
-use mathlib.Core.Path.{_≡_, refl, sym, ap, _∙_, subst, subst⁻¹}
-use mathlib.Core.Bool.{Bool, true, false, cond}
+use mathlib.Core.Path.{_≡_, refl, ap, _∙_, subst, subst⁻¹}
+use mathlib.Core.Bool.{Bool, true, false, not, cond, _&&_, _||_}
 use mathlib.Core.List.{List, [], _∷_, _++_}
 use Prim.Native.Nat.{ℕ, zero, suc, _+_, _-_, _%_, _≤_, _<_}
 use native.Mathlib.Nat.{add-zero}
@@ -13,28 +13,32 @@ use mir.Val.{SFits}
 use borrow.Author.Tests.{le-ltb, ltb-true, ltb-false, leb-true, leb-false, eqb-true, eqb-false}
 use lib.Dec.{ltb, leb, eqb}
 use lib.IntN.{ℤ}
-use lib.ListN.{length, getD, drop, length-drop, length-append, length-set, length-replicate, getD-replicate}
-use lib.Seq.{getD-drop, getD-set-same, getD-set-other, drop-drop, take-at, drop-at, take-append-le, drop-append-le}
+use lib.ListN.{length, drop, length-drop, length-append, length-set, length-replicate, getD-replicate}
+use lib.Seq.{getD-set-same, getD-set-other, take-at, drop-at, take-append-le, drop-append-le}
 use Rattle.codec.specs.Refusal.{fieldHeaderCut, valueCut, inputLong, writtenValueLong}
 use Rattle.codec.specs.Vlq.{vlqBytes}
 use Rattle.codec.specs.Signed.{bitsOf}
 use Rattle.codec.specs.BigEndian.{bigEndianBytes}
 use Rattle.codec.proofs.Laws.BigEndian.{bytes-length, number-back}
-use Rattle.codec.proofs.Laws.VlqTrip.{written-read-at}
+use Rattle.codec.proofs.Laws.VlqTrip.{written-read-at, at-most-ten}
 use Rattle.voting.specs.Table.{slot}
+use Rattle.voting.specs.declared.table.Slot.{Slot}
 use Rattle.voting.specs.declared.table.Value.{Value}
 use Rattle.voting.specs.declared.table.Value.the-variants.{Absent, Number}
 use Rattle.voting.proofs.Laws.Tests.{by-test, neither}
-use Rattle.extension.specs.declared.body.Survey.{Survey}
 use Rattle.extension.specs.declared.parameters.ParameterMap.{ParameterMap}
 use Rattle.extension.specs.Section.{bad, Listing, done, stop, item, listing, items, refusalOf, section, closed, sectionItems, any}
-use Rattle.extension.specs.Body.{Field, parameterKey, readField, fieldsFrom, extensionOf, fieldsOf, headerId}
-use Rattle.extension.specs.Parameters.{noParameters, entryOf, store, numberIn, taken, parametersIn}
+use Rattle.extension.specs.Body.{Field, parameterKey, readField, fieldsFrom, extensionOf, fieldsOf, headerId, wrongSize, wrongParameter, checkBody}
+use Rattle.extension.specs.Parameters.{noParameters, entryOf, store, numberIn, taken, parametersIn, readParameters, parametersOf}
 use Rattle.extension.proofs.Laws.Section.{listing-item}
-use Rattle.extension.specs.Pack.{wireAt, wireList, wireFields, longValue, surveyed, surveyRefusal, packRefusal, packed}
+use Rattle.extension.proofs.Laws.Body.{check-body-by}
+use Rattle.extension.specs.Pack.{wireAt, wireList, wireFields, longValue, packRefusal, packed}
 use Rattle.extension.proofs.Laws.Pack.{sizeAt, fieldThere, wire-header-cut, wire-value-cut, wire-here, value-length, wire-none, wire-end, wire-stop, wire-item}
-use Rattle.extension.proofs.Laws.PackTrip.{field-here, size-there, field-there, Lists, wire-past, fine, Held, Sound}
-use Rattle.writers.specs.Pack.{PackedBack, entryBytes, entriesFrom, parameterBytes, ParametersBack}
+use Rattle.extension.proofs.Laws.PackTrip.{field-here, size-there, field-there, Lists, fine, Held, Sound}
+use Rattle.writers.specs.Pack.{PackedBack, numberBytes, entryBytes, entriesFrom, parameterBytes, ParametersBack}
+use Rattle.writers.specs.Fields.{fieldBytes, fieldsBytes}
+use Rattle.writers.proofs.Laws.Fields.{fields-listed}
+use Rattle.writers.proofs.Laws.Pack.{entries-most}
 
 -- a listing that ends with no refusal; and a listing with its last position further on by b
 abbrev Whole : Listing Field → Type 0
@@ -119,19 +123,15 @@ module _ (body : List ℕ) (b : ℕ) where
       (rw sub-one (one-field at (wireList k s (at + 3 + sizeAt s at)) i (reads-wire k (at + 3 + sizeAt s at))))))
 
 -- what a list that is not refused has: at most 65,536 fields, no long value, and no cut
-accepted-survey : (w : Survey) → surveyRefusal w ≡ 0 → (w .count ≤ 65536) × (w .long ≡ false) × (w .cut ≡ 0)
-unfolding surveyRefusal
-accepted-survey w = go (ltb 65536 (w .count)) (w .long) refl refl
+accepted-fields : (l : Listing Field) → packRefusal l ≡ 0 → (length (items l) ≤ 65536) × (any longValue (items l) ≡ false) × (refusalOf l ≡ 0)
+unfolding packRefusal
+accepted-fields l = go (ltb 65536 (length (items l))) (any longValue (items l)) refl refl
   where
-    go : (s t : Bool) → ltb 65536 (w .count) ≡ s → w .long ≡ t → cond s inputLong (cond t writtenValueLong (w .cut)) ≡ 0
-        → (w .count ≤ 65536) × (w .long ≡ false) × (w .cut ≡ 0)
+    go : (s t : Bool) → ltb 65536 (length (items l)) ≡ s → any longValue (items l) ≡ t → cond s inputLong (cond t writtenValueLong (refusalOf l)) ≡ 0
+        → (length (items l) ≤ 65536) × (any longValue (items l) ≡ false) × (refusalOf l ≡ 0)
     go true t p q e = absurd (omega arith)
     go false true p q e = absurd (omega arith)
-    go false false p q e = (ltb-false 65536 (w .count) p, q, e)
-
-accepted-fields : (l : Listing Field) → packRefusal l ≡ 0 → (length (items l) ≤ 65536) × (any longValue (items l) ≡ false) × (refusalOf l ≡ 0)
-unfolding packRefusal surveyed
-accepted-fields l e = accepted-survey (surveyed l) e
+    go false false p q e = (ltb-false 65536 (length (items l)) p, q, e)
 
 -- a body that is an id, a count and a list of as many fields
 module _ (id fields : List ℕ) (l : length id ≡ 32) (ok : packRefusal (wireFields fields) ≡ 0) (room : length (packed id fields) ≤ 65536) where
@@ -220,71 +220,35 @@ unfolding fieldsFor
 all-once m zero id = omega arith
 all-once m (suc n) id = omega (arith, entry-once id (entryOf m id) (fieldsFor n ((id + 1) % 256) m), all-once m n ((id + 1) % 256))
 
--- one parameter's bytes at a position, and the list that goes on behind them
-module _ (s : List ℕ) (at id : ℕ) (z : ℤ) (rest : List ℕ) (here : drop at s ≡ (0 ∷ id ∷ 4 ∷ bigEndianBytes 4 (bitsOf 32 z)) ++ rest) where
-  entry-size : sizeAt s at ≡ 4
-  entry-size = sym (getD-drop at s 2 0) ∙ rw here
+-- the bytes of parameters are the bytes of these fields
+entry-is : (id : ℕ) (v : Value) (fs : List Field) → entryBytes id v ++ fieldsBytes fs ≡ fieldsBytes (entryFields id v ++ fs)
+unfolding entryBytes fieldsBytes fieldBytes bigEndianBytes
+entry-is id Absent fs = refl
+entry-is id (Number z) fs = go (eqb id 124)
+  where
+    go : (t : Bool) → cond t [] (numberBytes id z) ++ fieldsBytes fs ≡ fieldsBytes (cond t [] (entryField id z ∷ []) ++ fs)
+    go true = refl
+    go false = refl
 
-  entry-read : fieldThere s at ≡ entryField id z
-  unfolding bigEndianBytes
-  entry-read =
-      let k0 : getD s at 0 ≡ 0 = ap (λ (i : ℕ). getD s i 0) (sym (add-zero at)) ∙ sym (getD-drop at s 0 0) ∙ rw here in
-      let k1 : getD s (at + 1) 0 ≡ id = sym (getD-drop at s 1 0) ∙ rw here in
-      let v : drop (at + 3) s ≡ bigEndianBytes 4 (bitsOf 32 z) ++ rest = sym (drop-drop 3 at s) ∙ rw here in
-      let i : at + 3 + 4 - (at + 3) ≡ 4 = omega arith in
-      rw (k0, k1, entry-size, i, v)
-
-  entry-rest : drop (at + 7) s ≡ rest
-  unfolding bigEndianBytes
-  entry-rest = sym (drop-drop 7 at s) ∙ rw here
-
-  entry-room : at + 7 ≤ length s
-  unfolding bigEndianBytes
-  entry-room =
-      let e : length (drop at s) ≡ 7 + length rest = rw here (omega arith) in
-      omega (arith, length-drop at s, e)
-
-  wire-entry : (k : ℕ) (fs : List Field) → length s ≤ at + suc k → Lists fs (wireList k s (at + 7)) → Lists (entryField id z ∷ fs) (wireList (suc k) s at)
-  unfolding items refusalOf
-  wire-entry k fs h r =
-      let n : at + 3 + sizeAt s at ≡ at + 7 = omega (arith, entry-size) in
-      let w = wire-here s at (omega (arith, entry-size, entry-room)) in
-      subst⁻¹ (Lists (entryField id z ∷ fs))
-      (wire-item s (suc k) at (omega arith) (omega (arith, entry-room)) (entryField id z) (at + 7) (w ∙ rw (entry-read, n)))
-      (rw sub-one (ap (λ (gs : List Field). entryField id z ∷ gs) (r .0), r .1))
-
--- the bytes of one parameter or none, then bytes that are read as fields
-module _ (s : List ℕ) (at id : ℕ) (rest : List ℕ) (fs : List Field) where
-  abbrev Follow : ℕ → ℕ → Type 0
-  Follow k at = drop at s ≡ rest → length s ≤ at + k → Lists fs (wireList k s at)
-
-  one-more : (z : ℤ) (k : ℕ) → drop at s ≡ (0 ∷ id ∷ 4 ∷ bigEndianBytes 4 (bitsOf 32 z)) ++ rest → length s ≤ at + k → ((j : ℕ) → Follow j (at + 7))
-      → Lists (entryField id z ∷ fs) (wireList k s at)
-  one-more z zero e h g = absurd (omega (arith, entry-room s at id z rest e))
-  one-more z (suc k) e h g = wire-entry s at id z rest e k fs h (g k (entry-rest s at id z rest e) (omega arith))
-
-  after-entry : (v : Value) (k : ℕ) → drop at s ≡ entryBytes id v ++ rest → length s ≤ at + k → Follow k at → ((j : ℕ) → Follow j (at + 7)) → Lists (entryFields id v ++ fs) (wireList k s at)
-  unfolding entryBytes
-  after-entry Absent k e h f g = f e h
-  after-entry (Number z) k e h f g = go (eqb id 124) e
-    where
-      go : (t : Bool) → drop at s ≡ cond t [] (0 ∷ id ∷ 4 ∷ bigEndianBytes 4 (bitsOf 32 z)) ++ rest → Lists (cond t [] (entryField id z ∷ []) ++ fs) (wireList k s at)
-      go true e = f e h
-      go false e = one-more z k e h g
-
--- the bytes of parameters, from a position on, are read as their fields
-wire-entries : (m : ParameterMap) (s : List ℕ) (n id k at : ℕ) → drop at s ≡ entriesFrom n id m → length s ≤ at + k → Lists (fieldsFor n id m) (wireList k s at)
-unfolding entriesFrom fieldsFor
-wire-entries m s zero id k at e h =
-    let z : length (drop at s) ≡ 0 = rw e in
-    wire-past s k at (omega (arith, length-drop at s, z))
-wire-entries m s (suc n) id k at e h =
-    after-entry s at id (entriesFrom n ((id + 1) % 256) m) (fieldsFor n ((id + 1) % 256) m) (entryOf m id) k e h
-    (wire-entries m s n ((id + 1) % 256) k at) (λ (j : ℕ). wire-entries m s n ((id + 1) % 256) j (at + 7))
+entries-are : (m : ParameterMap) (n id : ℕ) → entriesFrom n id m ≡ fieldsBytes (fieldsFor n id m)
+unfolding entriesFrom fieldsFor fieldsBytes
+entries-are m zero id = refl
+entries-are m (suc n) id =
+    let next = (id + 1) % 256 in
+    rw (entries-are m n next) (entry-is id (entryOf m id) (fieldsFor n next m))
 
 parameters-listed : (m : ParameterMap) → Lists (fieldsFor 256 128 m) (wireFields (parameterBytes m))
-unfolding wireFields parameterBytes
-parameters-listed m = wire-entries m (entriesFrom 256 128 m) 256 128 (length (entriesFrom 256 128 m)) 0 refl (omega arith)
+unfolding parameterBytes
+parameters-listed m = rw (entries-are m 256 128) (fields-listed (fieldsFor 256 128 m))
+
+-- an entry that was stored, and any other
+pub store-same : (m : ParameterMap) (id : ℕ) (v : Value) → id < length (m .entries) → entryOf (store m id v) id ≡ v
+unfolding entryOf
+store-same m id v h = ap (λ (x : Slot). x .value) (getD-set-same (m .entries) id (slot v) (slot Absent) h)
+
+pub store-other : (m : ParameterMap) (id at : ℕ) (v : Value) → (at ≡ id → ⊥) → entryOf (store m id v) at ≡ entryOf m at
+unfolding entryOf
+store-other m id at v n = ap (λ (x : Slot). x .value) (getD-set-other (m .entries) id at (slot v) (slot Absent) n)
 
 -- the entries after one parameter was read
 abbrev stored : ℕ → Value → ParameterMap → ParameterMap
@@ -313,16 +277,14 @@ stored-length id (Number z) m = go (eqb id 124)
     go false = length-set (m .entries) id (slot (Number z))
 
 stored-other : (id at : ℕ) (v : Value) (m : ParameterMap) → (at ≡ id → ⊥) → entryOf (stored id v m) at ≡ entryOf m at
-unfolding entryOf
 stored-other id at Absent m n = refl
 stored-other id at (Number z) m n = go (eqb id 124)
   where
-    go : (t : Bool) → getD (cond t m (store m id (Number z)) .entries) at (slot Absent) .value ≡ getD (m .entries) at (slot Absent) .value
+    go : (t : Bool) → entryOf (cond t m (store m id (Number z))) at ≡ entryOf m at
     go true = refl
-    go false = rw (getD-set-other (m .entries) id at (slot (Number z)) (slot Absent) n)
+    go false = store-other m id at (Number z) n
 
 stored-same : (id : ℕ) (v : Value) (m : ParameterMap) → id < length (m .entries) → entryOf m id ≡ Absent → entryOf (stored id v m) id ≡ cond (eqb id 124) Absent v
-unfolding entryOf
 stored-same id Absent m h e = e ∙ go (eqb id 124)
   where
     go : (t : Bool) → Absent ≡ cond t Absent Absent
@@ -330,9 +292,9 @@ stored-same id Absent m h e = e ∙ go (eqb id 124)
     go false = refl
 stored-same id (Number z) m h e = go (eqb id 124)
   where
-    go : (t : Bool) → getD (cond t m (store m id (Number z)) .entries) id (slot Absent) .value ≡ cond t Absent (Number z)
+    go : (t : Bool) → entryOf (cond t m (store m id (Number z))) id ≡ cond t Absent (Number z)
     go true = e
-    go false = rw (getD-set-same (m .entries) id (slot (Number z)) (slot Absent) h)
+    go false = store-same m id (Number z) h
 
 -- an id that is not among the n ids from one on keeps its entry; one that is among them gets the entry that was written
 module _ (m : ParameterMap) (held : (id : ℕ) → Held (entryOf m id)) (id : ℕ) (small : id < 256) where
@@ -359,18 +321,74 @@ module _ (m : ParameterMap) (held : (id : ℕ) → Held (entryOf m id)) (id : �
       (λ t. let q = eqb-false id from t in
       reached n next (stored from (entryOf m from) a) (omega arith) (omega arith) (omega arith) (stored-length from (entryOf m from) a ∙ l) (stored-other from id (entryOf m from) a q ∙ e))
 
-no-entry : (id : ℕ) → id < 256 → entryOf noParameters id ≡ Absent
+pub no-entry : (id : ℕ) → id < 256 → entryOf noParameters id ≡ Absent
 unfolding entryOf noParameters
 no-entry id h = rw (getD-replicate 256 id (slot Absent) (slot Absent) h)
 
-no-length : length (noParameters .entries) ≡ 256
+pub no-length : length (noParameters .entries) ≡ 256
 unfolding noParameters
 no-length = length-replicate 256 (slot Absent)
 
-pub parameters-back : (m : ParameterMap) → Sound m → ParametersBack m
-parameters-back m held = record {
-  whole = fine (wireFields (parameterBytes m)) (fieldsFor 256 128 m) (parameters-listed m) (omega (arith, all-once m 256 128)) (all-short m 256 128);
-  same = λ id h.
-      ap (λ (fs : List Field). entryOf (parametersIn fs noParameters) id) (parameters-listed m .0) ∙
-      reached m held id (omega arith) 256 128 noParameters (omega arith) (omega arith) (omega arith) no-length (no-entry id (omega arith));
-}
+-- the parameters that were written are a list of fields, and taken into the map they are the parameters without 124
+parameters-pack : (m : ParameterMap) → packRefusal (wireFields (parameterBytes m)) ≡ 0
+parameters-pack m = fine (wireFields (parameterBytes m)) (fieldsFor 256 128 m) (parameters-listed m) (omega (arith, all-once m 256 128)) (all-short m 256 128)
+
+parameters-taken : (m : ParameterMap) → Sound m → (id : ℕ) → id ≤ 255 → entryOf (parametersIn (fieldsFor 256 128 m) noParameters) id ≡ cond (eqb id 124) Absent (entryOf m id)
+parameters-taken m held id h = reached m held id (omega arith) 256 128 noParameters (omega arith) (omega arith) (omega arith) no-length (no-entry id (omega arith))
+
+-- every one of them has four bytes
+entry-right : (id : ℕ) (v : Value) (fs : List Field) → any wrongParameter fs ≡ false → any wrongParameter (entryFields id v ++ fs) ≡ false
+unfolding any wrongParameter wrongSize parameterKey bigEndianBytes
+entry-right id Absent fs e = e
+entry-right id (Number z) fs e = go (eqb id 124)
+  where
+    none : (t : Bool) → (not t && false) || any wrongParameter fs ≡ false
+    none true = e
+    none false = e
+
+    go : (t : Bool) → any wrongParameter (cond t [] (entryField id z ∷ []) ++ fs) ≡ false
+    go true = e
+    go false = none (eqb id 124)
+
+all-right : (m : ParameterMap) (n id : ℕ) → any wrongParameter (fieldsFor n id m) ≡ false
+unfolding fieldsFor any
+all-right m zero id = refl
+all-right m (suc n) id = entry-right id (entryOf m id) (fieldsFor n ((id + 1) % 256) m) (all-right m n ((id + 1) % 256))
+
+-- the body with these fields: it is not too long, passes the check, and its fields are the parameters
+module _ (m : ParameterMap) (header : List ℕ) (l : length header ≡ 32) where
+  abbrev body : List ℕ
+  body = packed header (parameterBytes m)
+
+  body-room : length body ≤ 65536
+  unfolding packed parameterBytes
+  body-room =
+      let many = length (items (wireFields (parameterBytes m))) in
+      let e₁ = length-append (header ++ vlqBytes many) (parameterBytes m) in
+      let e₂ = length-append header (vlqBytes many) in
+      omega (arith, e₁, e₂, at-most-ten many, entries-most m 256 128)
+
+  body-back : PackedBack header (parameterBytes m)
+  body-back = packed-back header (parameterBytes m) l (parameters-pack m) body-room
+
+  body-fields : fieldsOf body ≡ fieldsFor 256 128 m
+  body-fields = body-back .same-fields ∙ parameters-listed m .0
+
+  body-checked : checkBody body ≡ extensionOf body
+  body-checked = check-body-by body ∙ rw (body-fields, all-right m 256 128)
+
+  body-map : parametersOf body .map ≡ parametersIn (fieldsFor 256 128 m) noParameters
+  unfolding parametersOf readParameters fieldsOf
+  body-map = rw body-checked (ap (λ (fs : List Field). parametersIn fs noParameters) body-fields)
+
+  body-read : parametersOf body .refusal ≡ 0
+  unfolding parametersOf readParameters
+  body-read = rw body-checked (body-back .parsed)
+
+  pub parameters-back : Sound m → ParametersBack m header
+  parameters-back held = record {
+    packs = parameters-pack m;
+    checked = rw body-checked (body-back .parsed);
+    read = body-read;
+    same = λ id h. rw body-map (parameters-taken m held id h);
+  }

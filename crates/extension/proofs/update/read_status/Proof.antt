@@ -25,7 +25,7 @@ enum-told : tie.Need-enum-told
 enum-told c = search needs
 
 returns : tie.Need-returns
-returns c = c .read-sized .ensures ∙ offset-here _ _ _ (sym (c .before .before .before .before .m .given .1) ∙ c .before .before .before .before .before .before .read-u16 .ensures) _ (c .before .rule-id .ensures)
+returns c = c .read-sized .ensures ∙ offset-here _ _ _ (sym (c .before .before .before .before .m .given .1) ∙ c .before .before .before .before .before .before .read-u16 .ensures) _ (c .before .rule-id .ensures .0)
 
 returns-2 : tie.Need-returns-2
 returns-2 c = offset-unreadable _ _ (sym (c .enum-told .given .1) ∙ c .before .before .read-u16 .ensures)

@@ -1,4 +1,4 @@
--- `extension::encode::any_low` meets its contract. Assumes nothing.
+-- `writers::encode::any_low` meets its contract. Assumes nothing.
 use Prim.Native.Nat.{_-_, _≤_}
 use mathlib.Core.Bool.{true, false, true≢false}
 use mathlib.Core.Path.{_≡_, sym, _∙_}
@@ -11,7 +11,8 @@ use mir.Val.{SFits}
 use borrow.Author.Needs.{needs}
 use Rattle.extension.specs.Section.{any}
 use Rattle.extension.specs.Encode.{lowRule}
-use Rattle.writers.proofs.Laws.Encode.{any-end, any-found, any-past, low-test, not-high}
+use Rattle.writers.proofs.Laws.Sizes.{any-end, any-found, any-past}
+use Rattle.writers.proofs.Laws.Encode.{low-test, not-high}
 use Rattle.writers.proofs.encode.any_low.Statement.{statement}
 use Rattle.writers.proofs.encode.any_low.Tie as tie
 

@@ -1,4 +1,4 @@
--- `extension::encode::encode_disabled_rules` meets its contract. Assumes nothing.
+-- `writers::encode::encode_disabled_rules` meets its contract. Assumes nothing.
 use mathlib.Core.List.{[]}
 use mathlib.Core.Path.{_∙_}
 use native.Mathlib.Omega.{arith}

@@ -1,4 +1,4 @@
--- `extension::encode::encode_validation_settings_update` meets its contract. Assumes nothing.
+-- `writers::encode::encode_validation_settings_update` meets its contract. Assumes nothing.
 use mathlib.Core.Path.{_∙_}
 use native.Mathlib.Omega.{arith}
 use lib.ListN.{length}

@@ -1,4 +1,4 @@
--- `extension::encode::put_statuses` meets its contract. Assumes nothing.
+-- `writers::encode::put_statuses` meets its contract. Assumes nothing.
 use Prim.Native.Nat.{_+_, _-_, _≤_}
 use mathlib.Core.Path.{refl, _≡_, sym, _∙_}
 use native.Mathlib.Omega.{arith}
@@ -7,10 +7,10 @@ use lib.ListN.{getD, length, drop}
 use lib.Seq.{sets}
 use mir.Syntax.{w16}
 use mir.ValLaws.{toZ-ofZ}
-use borrow.Author.Needs.{needs}
 use Rattle.codec.proofs.Laws.Output.{sets-out}
 use Rattle.extension.specs.Encode.{sum, statusList, statusesBytes}
 use Rattle.writers.proofs.Laws.Encode.{agreed, statuses-end, codes-too, sizes-too, raw-too, raw-left, statuses-put}
+use borrow.Author.Needs.{needs}
 use Rattle.writers.proofs.encode.put_statuses.Statement.{statement}
 use Rattle.writers.proofs.encode.put_statuses.Tie as tie
 
@@ -38,39 +38,45 @@ returns c =
     let a = c .before .before .before .before .before .before .before .args in
     sym (sets-out (statusesBytes (statusList (drop (l .i) (a .ids .now)) (drop (l .i) (a .codes .now)) (drop (l .i) (a .sizes .now)) (drop (l .p) (a .raw .now)))) (l .out) (l .k) (c .if1 .taken)) ∙ l .inv .3
 
+mul-t13 : tie.Need-mul-t13 Inv-loop μ-loop
+mul-t13 c = search needs
+
+shared-slice-copy-out-t16 : tie.Need-shared-slice-copy-out-t16 Inv-loop μ-loop
+shared-slice-copy-out-t16 c = search needs
+
 mul-size : tie.Need-mul-size Inv-loop μ-loop
 mul-size c = search needs
 
 shared-slice-read-size : tie.Need-shared-slice-read-size Inv-loop μ-loop
 shared-slice-read-size c =
-    let l = c .before .before .before .loop in
-    let s = c .before .before .before .before .before .before .before .before in
+    let turn = c .before .before .before .before in
+    let l = turn .loop in
+    let s = turn .before .before .before .before .before in
     let a = s .args in
-    sizes-too (a .ids .now) (a .codes .now) (a .sizes .now) (a .raw .now) (l .i) (l .p) (s .pre) (c .before .before .loop-test .taken) (l .inv .2)
+    let t = c .before .before .before .loop-test .taken in
+    sizes-too (a .ids .now) (a .codes .now) (a .sizes .now) (a .raw .now) (l .i) (l .p) (s .pre) t (l .inv .2)
 
 cast-next : tie.Need-cast-next Inv-loop μ-loop
-cast-next c = omega (arith, c .shared-slice-known4 .given (c .before .before .before .loop .i))
+cast-next c = omega (arith, c .shared-slice-known4 .given (c .before .before .before .before .loop .i))
 
 add-next : tie.Need-add-next Inv-loop μ-loop
 add-next c =
-    let l = c .before .before .before .loop in
-    let s = c .before .before .before .before .before .before .before .before in
+    let turn = c .before .before .before .before in
+    let l = turn .loop in
+    let s = turn .before .before .before .before .before in
     let a = s .args in
-    let z = raw-too (a .ids .now) (a .codes .now) (a .sizes .now) (a .raw .now) (l .i) (l .p) (s .pre) (c .before .before .loop-test .taken) (l .inv .2) in
+    let t = c .before .before .before .loop-test .taken in
+    let z = raw-too (a .ids .now) (a .codes .now) (a .sizes .now) (a .raw .now) (l .i) (l .p) (s .pre) t (l .inv .2) in
     search needs
-
-mul-put-status : tie.Need-mul-put-status Inv-loop μ-loop
-mul-put-status c = search needs
-
-shared-slice-copy-out-put-status : tie.Need-shared-slice-copy-out-put-status Inv-loop μ-loop
-shared-slice-copy-out-put-status c = search needs
 
 shared-slice-read-put-status : tie.Need-shared-slice-read-put-status Inv-loop μ-loop
 shared-slice-read-put-status c =
-    let l = c .before .before .before .before .before .before .loop in
-    let s = c .before .before .before .before .before .before .before .before .before .before .before in
+    let turn = c .before .before .before .before .before .before in
+    let l = turn .loop in
+    let s = turn .before .before .before .before .before in
     let a = s .args in
-    codes-too (a .ids .now) (a .codes .now) (a .sizes .now) (a .raw .now) (l .i) (l .p) (s .pre) (c .before .before .before .before .before .loop-test .taken) (l .inv .2)
+    let t = c .before .before .before .before .before .loop-test .taken in
+    codes-too (a .ids .now) (a .codes .now) (a .sizes .now) (a .raw .now) (l .i) (l .p) (s .pre) t (l .inv .2)
 
 sub-put-status : tie.Need-sub-put-status Inv-loop μ-loop
 sub-put-status c = search needs
@@ -80,19 +86,15 @@ part-put-status-start c = search needs
 
 part-put-status-end : tie.Need-part-put-status-end Inv-loop μ-loop
 part-put-status-end c =
-    let l = c .before .before .before .before .before .before .loop in
-    let s = c .before .before .before .before .before .before .before .before .before .before .before in
+    let turn = c .before .before .before .before .before .before in
+    let l = turn .loop in
+    let s = turn .before .before .before .before .before in
     let a = s .args in
-    raw-too (a .ids .now) (a .codes .now) (a .sizes .now) (a .raw .now) (l .i) (l .p) (s .pre) (c .before .before .before .before .before .loop-test .taken) (l .inv .2)
+    let t = c .before .before .before .before .before .loop-test .taken in
+    raw-too (a .ids .now) (a .codes .now) (a .sizes .now) (a .raw .now) (l .i) (l .p) (s .pre) t (l .inv .2)
 
 put-status-requires : tie.Need-put-status-requires Inv-loop μ-loop
 put-status-requires c κs = search needs
-
-mul-status-size : tie.Need-mul-status-size Inv-loop μ-loop
-mul-status-size c = search needs
-
-shared-slice-copy-out-status-size : tie.Need-shared-slice-copy-out-status-size Inv-loop μ-loop
-shared-slice-copy-out-status-size c = search needs
 
 status-size-requires : tie.Need-status-size-requires Inv-loop μ-loop
 status-size-requires c κs = search needs
@@ -108,17 +110,17 @@ loop-less c = search needs
 
 loop-again : tie.Need-loop-again Inv-loop μ-loop
 loop-again c =
-    let b = c .before .before .before .before .before .before .before .before .before .before .before .before in
-    let l = b .loop in
-    let s = b .before .before .before .before .before in
+    let turn = c .before .before .before .before .before .before .before .before .before .before .before in
+    let l = turn .loop in
+    let s = turn .before .before .before .before .before in
     let a = s .args in
-    let t = c .before .before .before .before .before .before .before .before .before .before .before .loop-test .taken in
-    let e = toZ-ofZ w16 (getD (a .ids .now) (l .i) (pos 0)) (record { sfits = c .before .status-size-arg .given }) in
-    let p = c .before .before .before .before .put-status in (
+    let t = c .before .before .before .before .before .before .before .before .before .before .loop-test .taken in
+    let e = toZ-ofZ w16 (getD (a .ids .now) (l .i) (pos 0)) (record { sfits = c .before .before .before .before .before .before .before .before .t16 .given }) in
+    let put = c .before .before .before .put-status in (
       omega arith,
-      omega (arith, p .kept .0),
+      omega (arith, put .kept .0),
       raw-left (a .ids .now) (a .codes .now) (a .sizes .now) (a .raw .now) (l .i) (l .p) (s .pre) t (l .inv .2),
-      rw (p .ensures) (sym (statuses-put (a .ids .now) (a .codes .now) (a .sizes .now) (a .raw .now) (l .i) (l .p) (s .pre) t (l .inv .2) e (c .status-size .ensures .0) (l .out) (l .k)) ∙ l .inv .3),
+      rw (put .ensures) (sym (statuses-put (a .ids .now) (a .codes .now) (a .sizes .now) (a .raw .now) (l .i) (l .p) (s .pre) t (l .inv .2) e (c .status-size .ensures .0) (l .out) (l .k)) ∙ l .inv .3),
     )
 
 same-length-2 : tie.Need-same-length-2 Inv-loop μ-loop
@@ -139,19 +141,17 @@ put-statuses-spec =
     loop-holds
     same-length
     returns
+    mul-t13
+    shared-slice-copy-out-t16
     mul-size
     shared-slice-read-size
     cast-next
     add-next
-    mul-put-status
-    shared-slice-copy-out-put-status
     shared-slice-read-put-status
     sub-put-status
     part-put-status-start
     part-put-status-end
     put-status-requires
-    mul-status-size
-    shared-slice-copy-out-status-size
     status-size-requires
     add-k
     add-i

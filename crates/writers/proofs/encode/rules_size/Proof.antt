@@ -1,4 +1,4 @@
--- `extension::encode::rules_size` meets its contract. Assumes nothing.
+-- `writers::encode::rules_size` meets its contract. Assumes nothing.
 use Prim.Native.Nat.{_+_, _-_, _*_, _≤_}
 use mathlib.Core.Path.{_≡_, ap}
 use native.Mathlib.Omega.{arith}

@@ -1,13 +1,13 @@
--- `extension::encode::statuses_size` meets its contract. Assumes nothing.
+-- `writers::encode::statuses_size` meets its contract. Assumes nothing.
 use Prim.Native.Nat.{_+_, _-_, _*_, _≤_}
 use mathlib.Core.Path.{_≡_}
 use native.Mathlib.Omega.{arith}
 use lib.ListN.{length, drop}
 use mir.Syntax.{w16}
 use mir.ValLaws.{toZ-ofZ}
-use borrow.Author.Needs.{needs}
 use Rattle.writers.specs.Encode.{statusesSize}
 use Rattle.writers.proofs.Laws.Encode.{statuses-size-end, statuses-size-short, statuses-size-here}
+use borrow.Author.Needs.{needs}
 use Rattle.writers.proofs.encode.statuses_size.Statement.{statement}
 use Rattle.writers.proofs.encode.statuses_size.Tie as tie
 
@@ -27,14 +27,14 @@ returns c =
     let a = c .before .before .before .before .args in
     omega (arith, statuses-size-short (a .ids .now) (a .sizes .now) (l .i) (c .if1 .taken))
 
+mul-t7 : tie.Need-mul-t7 Inv-loop μ-loop
+mul-t7 c = search needs
+
+shared-slice-copy-out-t9 : tie.Need-shared-slice-copy-out-t9 Inv-loop μ-loop
+shared-slice-copy-out-t9 c = search needs
+
 mul-status-size : tie.Need-mul-status-size Inv-loop μ-loop
 mul-status-size c = search needs
-
-shared-slice-copy-out-status-size : tie.Need-shared-slice-copy-out-status-size Inv-loop μ-loop
-shared-slice-copy-out-status-size c = search needs
-
-mul-status-size-2 : tie.Need-mul-status-size-2 Inv-loop μ-loop
-mul-status-size-2 c = search needs
 
 shared-slice-read-status-size : tie.Need-shared-slice-read-status-size Inv-loop μ-loop
 shared-slice-read-status-size c = search needs
@@ -53,10 +53,10 @@ loop-less c = search needs
 
 loop-again : tie.Need-loop-again Inv-loop μ-loop
 loop-again c =
-    let b = c .before .before .before in
-    let l = b .before .before .loop in
-    let a = b .before .before .before .before .args in
-    let e = statuses-size-here (a .ids .now) (a .sizes .now) (l .i) (b .before .loop-test .taken) (b .if1 .left) (toZ-ofZ w16 _ (record { sfits = c .before .before .status-size-arg .given })) in
+    let test = c .before .before .before in
+    let l = test .before .before .loop in
+    let a = test .before .before .before .before .args in
+    let e = statuses-size-here (a .ids .now) (a .sizes .now) (l .i) (test .before .loop-test .taken) (test .if1 .left) (toZ-ofZ w16 _ (record { sfits = c .before .before .t9 .given })) in
     omega (arith, e, c .status-size .ensures)
 
 returns-2 : tie.Need-returns-2 Inv-loop μ-loop
@@ -73,9 +73,9 @@ statuses-size-spec =
     μ-loop
     loop-holds
     returns
+    mul-t7
+    shared-slice-copy-out-t9
     mul-status-size
-    shared-slice-copy-out-status-size
-    mul-status-size-2
     shared-slice-read-status-size
     status-size-requires
     add-n

@@ -1,4 +1,4 @@
--- `extension::pack::entries_size` meets its contract. Assumes nothing.
+-- `writers::pack::entries_size` meets its contract. Assumes nothing.
 use Prim.Native.Nat.{_+_, _*_, _≤_}
 use mathlib.Core.Path.{_≡_, sym, _∙_}
 use native.Mathlib.Nat.{zero-add}

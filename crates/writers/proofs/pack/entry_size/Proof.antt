@@ -1,4 +1,4 @@
--- `extension::pack::entry_size` meets its contract. Assumes nothing.
+-- `writers::pack::entry_size` meets its contract. Assumes nothing.
 use mathlib.Core.Path.{sym, ap}
 use lib.ListN.{length}
 use borrow.Author.Needs.{needs}

@@ -1,4 +1,4 @@
--- `extension::pack::pack_extension_bytes` meets its contract. Assumes nothing.
+-- `writers::pack::pack_extension_bytes` meets its contract. Assumes nothing.
 use native.Mathlib.Omega.{arith}
 use borrow.Author.Needs.{needs}
 use Rattle.codec.proofs.Laws.VlqTrip.{at-most-ten}

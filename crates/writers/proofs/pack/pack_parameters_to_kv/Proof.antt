@@ -1,4 +1,4 @@
--- `extension::pack::pack_parameters_to_kv` meets its contract. Assumes nothing.
+-- `writers::pack::pack_parameters_to_kv` meets its contract. Assumes nothing.
 use borrow.Author.Needs.{needs}
 use Rattle.codec.proofs.Laws.Output.{short, done}
 use Rattle.extension.specs.Parameters.{entryOf}
@@ -15,7 +15,7 @@ returns : tie.Need-returns
 unfolding packParameters entryOf
 returns c =
     let b = c .before .before .before in
-    (short _ _ _ (c .before .entries-size .ensures) (c .if1 .taken), parameters-back (b .args .params) (all-held (b .args .params .entries) _ (b .good .0 .1 .1 .0 .1 .1)))
+    (short _ _ _ (c .before .entries-size .ensures) (c .if1 .taken), λ header l. parameters-back (b .args .params) header l (all-held (b .args .params .entries) _ (b .good .0 .1 .1 .0 .1 .1)))
 
 put-entries-requires : tie.Need-put-entries-requires
 put-entries-requires c κs = search needs
@@ -29,7 +29,7 @@ returns-2 c =
     let b = c .before .before .before .before in
     let s = b .before .before .before in (
       done _ _ _ (b .before .entries-size .ensures) (b .if1 .left) _ (c .before .before .put-entries .ensures),
-      parameters-back (s .args .params) (all-held (s .args .params .entries) _ (s .good .0 .1 .1 .0 .1 .1)),
+      λ header l. parameters-back (s .args .params) header l (all-held (s .args .params .entries) _ (s .good .0 .1 .1 .0 .1 .1)),
     )
 
 pub pack-parameters-to-kv-spec : {M : Type 1} → statement M

@@ -1,4 +1,4 @@
--- `extension::pack::pack_refusal` meets its contract. Assumes nothing.
+-- `writers::pack::pack_refusal` meets its contract. Assumes nothing.
 use Rattle.writers.proofs.Laws.Pack.{many-fields, long-value, cut-only}
 use Rattle.writers.proofs.pack.pack_refusal.Statement.{statement}
 use Rattle.writers.proofs.pack.pack_refusal.Tie as tie

@@ -1,4 +1,4 @@
--- `extension::pack::put_entries` meets its contract. Assumes nothing.
+-- `writers::pack::put_entries` meets its contract. Assumes nothing.
 use Prim.Native.Nat.{_+_, _*_, _≤_}
 use mathlib.Core.Path.{_≡_, refl, sym, _∙_}
 use native.Mathlib.Omega.{arith}

@@ -1,10 +1,14 @@
--- `extension::pack::put_entry` meets its contract. Assumes nothing.
-use mathlib.Core.Path.{sym, ap, _∙_}
+-- `writers::pack::put_entry` meets its contract. Assumes nothing.
+use mathlib.Core.Path.{_≡_, sym, ap, _∙_}
 use lib.Seq.{sets}
 use mir.Syntax.{w32}
 use mir.Val.{SFits}
+use mir.ValLaws.{toZ-ofZ}
+use lib.IntN.{ℤ}
+use Rattle.codec.specs.Signed.{bitsOf}
+use Rattle.codec.specs.BigEndian.{bigEndianBytes}
 use borrow.Author.Needs.{needs}
-use Rattle.writers.proofs.Laws.Pack.{entry-absent, entry-dropped, entry-stored}
+use Rattle.writers.proofs.Laws.Pack.{entry-absent, entry-dropped, entry-number}
 use Rattle.writers.proofs.pack.put_entry.Statement.{statement}
 use Rattle.writers.proofs.pack.put_entry.Tie as tie
 
@@ -47,12 +51,14 @@ same-length : tie.Need-same-length
 same-length c = search needs
 
 returns-3 : tie.Need-returns-3
+unfolding bigEndianBytes
 returns-3 c =
     let b = c .before .before in
     let k = b .before .before .before in
     let v = k .before .before .before .value .given in
     let f : SFits w32 (v .0 .0) = search needs in
-    b .put-bytes .ensures ∙ entry-stored _ _ _ f (v .1) (k .before .if1 .left) (k .i32-to-be-bytes .ensures .0) _ _
+    let four : k .i32-to-be-bytes .result ≡ bigEndianBytes 4 (bitsOf 32 (v .0 .0)) = k .i32-to-be-bytes .ensures .0 ∙ ap (λ (z : ℤ). bigEndianBytes 4 (bitsOf 32 z)) (toZ-ofZ w32 (v .0 .0) f) in
+    b .put-bytes .ensures ∙ rw (four, entry-number _ _ _ (v .1) (k .before .if1 .left))
 
 pub put-entry-spec : {M : Type 1} → statement M
 put-entry-spec =

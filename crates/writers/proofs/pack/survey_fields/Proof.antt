@@ -1,10 +1,11 @@
--- `extension::pack::survey_fields` meets its contract. Assumes nothing.
+-- `writers::pack::survey_fields` meets its contract. Assumes nothing.
 use Prim.Native.Nat.{_+_, _≤_}
 use mathlib.Core.Path.{_≡_, sym, _∙_}
 use native.Mathlib.Omega.{arith}
 use lib.ListN.{length}
 use borrow.Author.Needs.{needs}
-use Rattle.extension.specs.Pack.{wireList, wireFields, surveyed}
+use Rattle.extension.specs.Pack.{wireList, wireFields}
+use Rattle.writers.specs.Survey.{surveyed}
 use Rattle.writers.proofs.Laws.Pack.{surveyedOn, survey-start, walk-none, walk-end, walk-header-cut, walk-value-cut, walk-field}
 use Rattle.writers.proofs.pack.survey_fields.Statement.{statement}
 use Rattle.writers.proofs.pack.survey_fields.Tie as tie
