@@ -183,6 +183,10 @@ ERGO_STATIC_ASSERT(offsetof(ergo_entry, count) == 4, "the count of an entry stan
 /* The table that a network begins with, ERGO_TABLE_SIZE bytes: 21. */
 uint8_t ergo_default_parameters(uint8_t network, uint8_t *out, size_t out_len);
 
+/* The parameters that a table asks a body to carry, as ergo_check_parameters_v6 takes them, and how many bytes: minus 21.
+   A buffer of ERGO_TABLE_SIZE holds any. */
+int64_t ergo_table_parameters(const uint8_t *table, size_t table_len, uint8_t *out, size_t out_len);
+
 /* The settings of a network, ERGO_SETTINGS_SIZE bytes: 21. */
 uint8_t ergo_voting_config(uint8_t network, uint8_t *out, size_t out_len);
 
@@ -293,6 +297,12 @@ uint8_t ergo_rule_may_not_be_disabled(int32_t id);
    minus 22, 24, 3 or 5, 21. It has at most 35 bytes more than the fields. */
 int64_t ergo_pack_extension_bytes(const uint8_t *header_id, size_t header_id_len, const uint8_t *fields,
                                   size_t fields_len, uint8_t *out, size_t out_len);
+
+/* Fields as they stand in a body, of their keys (two bytes each), the sizes of their values, and the bytes of all values
+   one after another: minus 22, 24, 3 where there are not two key bytes for each size, 5 where there are not as many
+   bytes of values as the sizes say, 21. They have 3 bytes for each, and the values. */
+int64_t ergo_pack_fields(const uint8_t *keys, size_t keys_len, const uint32_t *sizes, size_t sizes_len,
+                         const uint8_t *values, size_t values_len, uint8_t *out, size_t out_len);
 
 /* Parameters as fields, in the order of their signed ids and without 124: minus 21. They are handed over as
    ergo_check_parameters_v6 takes them. A buffer of ERGO_PARAMETER_FIELDS_SIZE_MOST holds any. */

@@ -110,6 +110,28 @@ static void states_and_answers(void) {
     assert(memcmp(ergo_state_table(state), table, sizeof table) == 0);
 }
 
+/* A body of the fields of a table's parameters and of one more: its parameters pass the match. */
+static void fields_and_parameters(void) {
+    static const uint8_t id[32] = {0xa5}, key[] = {2, 3}, value[] = {7};
+    static const uint32_t size[] = {1}, long_size[] = {65};
+    uint8_t map[ERGO_TABLE_SIZE], fields[ERGO_PARAMETER_FIELDS_SIZE_MOST], body[sizeof fields + 35], back[sizeof map];
+    int64_t entries = ergo_table_parameters(table, sizeof table, map, sizeof map);
+    assert(entries == 45 && ergo_check_parameters_v6(table, sizeof table, map, (size_t)entries) == 0);
+    assert(ergo_table_parameters(table, sizeof table, map, 44) == -ERGO_OUTPUT_SHORT);
+    int64_t first = ergo_pack_parameters_to_kv(map, (size_t)entries, fields, sizeof fields);
+    assert(first == 63);
+    assert(ergo_pack_fields(key, 2, size, 1, value, 1, fields + first, sizeof fields - (size_t)first) == 4);
+    assert(memcmp(fields + first, "\2\3\1\7", 4) == 0);
+    assert(ergo_pack_fields(key, 2, long_size, 1, value, 1, fields, sizeof fields) == -ERGO_WRITTEN_VALUE_LONG);
+    assert(ergo_pack_fields(key, 1, size, 1, value, 1, fields, sizeof fields) == -ERGO_FIELD_HEADER_CUT);
+    assert(ergo_pack_fields(key, 2, size, 1, value, 0, fields, sizeof fields) == -ERGO_VALUE_CUT);
+    assert(ergo_pack_fields(key, 2, size, 1, value, 1, fields, 3) == -ERGO_OUTPUT_SHORT);
+    int64_t written = ergo_pack_extension_bytes(id, sizeof id, fields, (size_t)first + 4, body, sizeof body);
+    assert(written == 100 && ergo_check_body(body, (size_t)written) == 0);
+    assert(ergo_parse_parameters_from_kv(body, (size_t)written, back, sizeof back) == entries);
+    assert(memcmp(back, map, (size_t)entries) == 0);
+}
+
 /* Nothing to read, and nothing to write to. */
 static void nothing_lent(void) {
     assert(ergo_default_parameters(ERGO_MAINNET, NULL, 0) == ERGO_OUTPUT_SHORT);
@@ -131,6 +153,8 @@ static void nothing_lent(void) {
     assert(ergo_rule_at(NULL, 0, 0, NULL, 0) == ERGO_UPDATE_UNREADABLE);
     assert(ergo_status_at(NULL, 0, 0, NULL, 0) == ERGO_UPDATE_UNREADABLE);
     assert(ergo_pack_extension_bytes(NULL, 0, NULL, 0, NULL, 0) == -ERGO_OUTPUT_SHORT);
+    assert(ergo_pack_fields(NULL, 0, NULL, 0, NULL, 0, NULL, 0) == 0);
+    assert(ergo_table_parameters(NULL, 0, NULL, 0) == 0);
     assert(ergo_pack_parameters_to_kv(NULL, 0, NULL, 0) == 0);
     assert(ergo_encode_validation_settings_update(NULL, 0, NULL, 0, NULL, 0, NULL, 0, NULL, 0, NULL, 0) ==
            -ERGO_OUTPUT_SHORT);
@@ -163,6 +187,7 @@ int main(void) {
     windows();
     boundary();
     states_and_answers();
+    fields_and_parameters();
     nothing_lent();
     outputs_that_are_too_short();
     puts("C: the tests passed");

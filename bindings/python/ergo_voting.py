@@ -113,6 +113,7 @@ _MAKE = (
 # By the names and the arguments that crates/exports/src has; a usize that can be minus a refusal's number is an i64.
 SIGNATURES = """
     ergo_default_parameters(network: u8, out: &mut [u8]) -> u8
+    ergo_table_parameters(table: &[u8], out: &mut [u8]) -> i64
     ergo_voting_config(network: u8, out: &mut [u8]) -> u8
     ergo_soft_fork_approved(settings: &[u8], votes: i32) -> u8
     ergo_change_approved(settings: &[u8], votes: u32) -> u8
@@ -139,6 +140,7 @@ SIGNATURES = """
     ergo_status_at(bytes: &[u8], at: usize, out: &mut [u8]) -> u8
     ergo_rule_may_not_be_disabled(id: i32) -> u8
     ergo_pack_extension_bytes(header_id: &[u8], fields: &[u8], out: &mut [u8]) -> i64
+    ergo_pack_fields(keys: &[u8], sizes: &[u32], values: &[u8], out: &mut [u8]) -> i64
     ergo_pack_parameters_to_kv(parameters: &[u8], out: &mut [u8]) -> i64
     ergo_encode_validation_settings_update(
         rules: &[u16], ids: &[i16], codes: &[u8], sizes: &[u32], raw: &[u8], out: &mut [u8]) -> i64
@@ -308,6 +310,10 @@ class Table:
     def default_parameters(network: Network) -> Table:
         """The table that a network begins with."""
         return Table.from_bytes(_filled(TABLE_SIZE, "ergo_default_parameters", network))
+
+    def parameters(self) -> dict[int, int]:
+        """The parameters that the table asks a body to carry."""
+        return _parameters_of(_written(TABLE_SIZE, "ergo_table_parameters", self.to_bytes()))
 
     def get(self, id: int) -> int | None:
         """The entry of an id: None where it is absent, or the table has no such id."""
@@ -524,7 +530,11 @@ def _items(item_at: Callable, data: bytes, count: int, at: int) -> list:
 
 def parse_parameters_from_kv(body: bytes) -> dict[int, int]:
     """The parameters of a body, by signed id: 22, 1 to 6."""
-    return dict(struct.iter_unpack(">bi", _written(PARAMETERS_SIZE_MOST, "ergo_parse_parameters_from_kv", body)))
+    return _parameters_of(_written(PARAMETERS_SIZE_MOST, "ergo_parse_parameters_from_kv", body))
+
+
+def _parameters_of(data: bytes) -> dict[int, int]:
+    return dict(struct.iter_unpack(">bi", data))
 
 
 def extract_disabling_rules_from_kv(body: bytes) -> bytes:
@@ -621,15 +631,17 @@ def check_block_version(table: Table, version: int) -> None:
 
 def pack_extension_bytes(header_id: bytes, fields: Iterable[Field]) -> bytes:
     """A body: 22, 24."""
-    data = b"".join(map(_field_bytes, fields))
+    data = pack_fields(fields)
     return _written(35 + len(data), "ergo_pack_extension_bytes", _exactly(32, header_id), data)
 
 
-def _field_bytes(field: Field) -> bytes:
-    """A field as it stands in a body, whose length is one byte. A value over 255 bytes is cut to that many: it is too long to be
-    written either way, and the library says so."""
-    value = bytes(field.value[:255])
-    return _exactly(2, field.key) + bytes((len(value),)) + value
+def pack_fields(fields: Iterable[Field]) -> bytes:
+    """Fields as they stand in a body, one after another: 22, 24."""
+    listed = list(fields)
+    keys = b"".join(_exactly(2, field.key) for field in listed)
+    values = b"".join(bytes(field.value) for field in listed)
+    sizes = [len(field.value) for field in listed]
+    return _written(3 * len(listed) + len(values), "ergo_pack_fields", keys, sizes, values)
 
 
 def pack_parameters_to_kv(parameters: Mapping[int, int]) -> list[Field]:

@@ -89,6 +89,13 @@ def encoded(rules, ids, codes, sizes, raw):
     return ergo.encode_validation_settings_update(rules, statuses)
 
 
+def packed(keys, sizes, values):
+    if len(keys) != 2 * len(sizes) or sum(sizes) != len(values):
+        raise ValueError("the lists disagree")
+    ends = zip(range(0, len(keys), 2), sizes, accumulate(sizes))
+    return ergo.pack_fields([Field(keys[at : at + 2], values[end - size : end]) for at, size, end in ends])
+
+
 def counts(update):
     return len(update.rules), len(update.statuses)
 
@@ -111,6 +118,8 @@ TYPED = {
     "compute_boundary_parameters": boundary,
     "parse_validation_settings_update": lambda data: counts(ergo.parse_validation_settings_update(data)),
     "encode_validation_settings_update": encoded,
+    "pack_fields": packed,
+    "table_parameters": Table.parameters,
     "open": lambda height, table: State.open(height, table).to_bytes(),
     "replay": lambda data, record: (state := State(data)).replay(record) or state.to_bytes(),
 }
@@ -126,6 +135,7 @@ ANSWERS = {
     "parse_extension_bytes": lambda data, body: Extension(body[:32], fields_of(body[u32(data, 4) : u32(data, 8)])),
     "field_at": lambda data, body: (Field(data[3:8:4], body[u32(data, 8) : u32(data, 12)]), u32(data, 12)),
     "parse_parameters_from_kv": lambda data, _: parameters_of(data),
+    "table_parameters": lambda data, _: parameters_of(data),
     "parse_validation_settings_update": lambda data, _: (u32(data, 0), u32(data, 12)),
     "rule_at": lambda data, _: (u32(data, 0), u32(data, 4)),
     "status_at": lambda data, read: (Status(given("i16", data[2:4]), data[7], read[u32(data, 8) : u32(data, 12)]), u32(data, 12)),
@@ -231,6 +241,14 @@ class Values(Case):
         read = ergo.parse_extension_bytes(body), ergo.parse_parameters_from_kv(body), ergo.extract_disabling_rules_from_kv(body)
         self.assertEqual(read, (Extension(ID, fields), parameters, bytes(64)))
         self.refused(Refusal.WRITTEN_VALUE_LONG, ergo.pack_extension_bytes, ID, [Field(b"\2\3", bytes(256))])
+        self.assertEqual(ergo.pack_fields([Field(b"\2\3", b"\7"), Field(b"\0\x7c", b"")]), b"\2\3\1\7\0\x7c\0")
+        for size in (65, 255, 256, 70_000):
+            self.refused(Refusal.WRITTEN_VALUE_LONG, ergo.pack_fields, [Field(b"\2\3", bytes(size))])
+        self.refused(Refusal.INPUT_LONG, ergo.pack_fields, [Field(b"\2\3", bytes(65))] * 65_537)
+        asked = MAINNET.parameters()
+        body = ergo.pack_extension_bytes(ID, ergo.pack_parameters_to_kv(asked))
+        self.assertEqual((len(asked), asked[123], ergo.parse_parameters_from_kv(body)), (9, 1, asked))
+        self.assertEqual((ergo.check_parameters_v6(MAINNET, asked), Table().parameters()), (None, {}))
 
     def test_every_legal_header(self):
         headers = list(ergo.legal_votes())

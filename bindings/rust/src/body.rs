@@ -89,7 +89,12 @@ pub fn field_at(body: &[u8], at: usize) -> Result<FieldPlace, Refusal> {
 pub fn parse_parameters_from_kv(body: &[u8]) -> Result<Parameters, Refusal> {
     let mut out = [0; PARAMETERS_SIZE_MOST];
     let size = sized(ffi::ergo_parse_parameters_from_kv(body, &mut out))?;
-    Ok(out[..size].chunks(PARAMETER_SIZE).map(|entry| (entry[0] as i8, number(&entry[1..]) as i32)).collect())
+    Ok(parameters_of(&out[..size]))
+}
+
+/// Parameters as the library writes them.
+pub fn parameters_of(bytes: &[u8]) -> Parameters {
+    bytes.chunks(PARAMETER_SIZE).map(|entry| (entry[0] as i8, number(&entry[1..]) as i32)).collect()
 }
 
 /// Parameters as the library reads them.

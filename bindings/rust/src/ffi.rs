@@ -35,6 +35,7 @@ macro_rules! library {
 
 library! {
     fn ergo_default_parameters(network: u8, out: &mut [u8]) -> u8;
+    fn ergo_table_parameters(table: &[u8], out: &mut [u8]) -> i64;
     fn ergo_voting_config(network: u8, out: &mut [u8]) -> u8;
     fn ergo_soft_fork_approved(settings: &[u8], votes: i32) -> u8;
     fn ergo_change_approved(settings: &[u8], votes: u32) -> u8;
@@ -67,6 +68,7 @@ library! {
     fn ergo_rule_may_not_be_disabled(id: i32) -> u8;
 
     fn ergo_pack_extension_bytes(header_id: &[u8], fields: &[u8], out: &mut [u8]) -> i64;
+    fn ergo_pack_fields(keys: &[u8], sizes: &[u32], values: &[u8], out: &mut [u8]) -> i64;
     fn ergo_pack_parameters_to_kv(parameters: &[u8], out: &mut [u8]) -> i64;
     fn ergo_encode_validation_settings_update(
         rules: &[u16],

@@ -57,5 +57,6 @@ pub use votes::{check_fork_vote, check_header_votes, check_headers, legal_votes,
 pub use window::{Window, WINDOW_LENGTH_MOST};
 pub use writers::{
     encode_disabled_rules, encode_disabled_rules_into, encode_validation_settings_update, encode_validation_settings_update_into,
-    pack_extension_bytes, pack_extension_bytes_into, pack_parameters_to_kv, pack_parameters_to_kv_into,
+    pack_extension_bytes, pack_extension_bytes_into, pack_fields, pack_fields_into, pack_parameters_to_kv,
+    pack_parameters_to_kv_into,
 };

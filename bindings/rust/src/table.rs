@@ -1,8 +1,9 @@
 //! Tables of parameters.
 
+use crate::body::{parameters_of, Parameters};
 use crate::bytes::{number, part};
 use crate::ffi;
-use crate::refusal::accepted;
+use crate::refusal::{accepted, sized};
 
 pub const TABLE_SIZE: usize = 60;
 
@@ -37,6 +38,13 @@ impl Table {
         let mut out = [0; TABLE_SIZE];
         accepted(ffi::ergo_default_parameters(network.number(), &mut out)).expect("room for a table");
         Table::from_bytes(&out)
+    }
+
+    /// The parameters that the table asks a body to carry.
+    pub fn parameters(&self) -> Parameters {
+        let mut out = [0; TABLE_SIZE];
+        let size = sized(ffi::ergo_table_parameters(&self.to_bytes(), &mut out)).expect("room for all parameters");
+        parameters_of(&out[..size])
     }
 
     /// The entry of an id: none where it is absent, or the table has no such id.

@@ -1,4 +1,4 @@
-//! Bodies, parameters and updates written: into a new vector, or from the start of a buffer that is lent, with how many bytes were
+//! Bodies, fields, parameters and updates written: into a new vector, or from the start of a buffer that is lent, with how many bytes were
 //! written as the answer. A buffer that is too short is 21; a call that is refused changes no cell of it.
 
 use crate::body::{fields_of, parameters_bytes, Field, Parameters};
@@ -13,32 +13,34 @@ const U16_SIZE_MOST: usize = 3;
 
 const HEADER_ID_SIZE: usize = 32;
 
-/// A parameter as a field: key, length, number.
+/// A field's key and length, and a parameter as a field: key, length, number.
+const FIELD_HEADER_SIZE: usize = 3;
 const PARAMETER_FIELD_SIZE: usize = 7;
 
 /// A body: 22, 24.
 pub fn pack_extension_bytes(header_id: &[u8; 32], fields: &[Field]) -> Result<Vec<u8>, Refusal> {
-    let fields = field_bytes(fields);
+    let fields = pack_fields(fields)?;
     let most = HEADER_ID_SIZE + COUNT_SIZE_MOST + fields.len();
     written(most, |out| sized(ffi::ergo_pack_extension_bytes(header_id, &fields, out)))
 }
 
 /// A body: 22, 24, 21.
 pub fn pack_extension_bytes_into(header_id: &[u8; 32], fields: &[Field], out: &mut [u8]) -> Result<usize, Refusal> {
-    sized(ffi::ergo_pack_extension_bytes(header_id, &field_bytes(fields), out))
+    sized(ffi::ergo_pack_extension_bytes(header_id, &pack_fields(fields)?, out))
 }
 
-/// Fields as they stand in a body, whose length is one byte. A value over 255 bytes is cut to that many: it is too long to be
-/// written either way, and the library says so.
-fn field_bytes(fields: &[Field]) -> Vec<u8> {
-    let mut bytes = Vec::new();
-    for Field { key, value } in fields {
-        let size = u8::try_from(value.len()).unwrap_or(u8::MAX);
-        bytes.extend(key);
-        bytes.push(size);
-        bytes.extend(&value[..usize::from(size)]);
-    }
-    bytes
+/// Fields as they stand in a body, one after another: 22, 24.
+pub fn pack_fields(fields: &[Field]) -> Result<Vec<u8>, Refusal> {
+    let values: usize = fields.iter().map(|field| field.value.len()).sum();
+    written(FIELD_HEADER_SIZE * fields.len() + values, |out| pack_fields_into(fields, out))
+}
+
+/// Fields as they stand in a body, one after another: 22, 24, 21.
+pub fn pack_fields_into(fields: &[Field], out: &mut [u8]) -> Result<usize, Refusal> {
+    let keys: Vec<u8> = fields.iter().flat_map(|field| field.key).collect();
+    let sizes: Vec<u32> = fields.iter().map(|field| size_of(&field.value)).collect();
+    let values: Vec<u8> = fields.iter().flat_map(|field| field.value.iter().copied()).collect();
+    sized(ffi::ergo_pack_fields(&keys, &sizes, &values, out))
 }
 
 /// Parameters as fields, in the order of their ids and without 124.
@@ -70,9 +72,9 @@ pub fn encode_validation_settings_update_into(rules: &[u16], statuses: &[Status]
     sized(ffi::ergo_encode_validation_settings_update(rules, &ids, &codes, &sizes, &raw, out))
 }
 
-/// A size that has no 32 bits is refused as any other above 65,535.
-fn size_of(raw: &[u8]) -> u32 {
-    u32::try_from(raw.len()).unwrap_or(u32::MAX)
+/// A size that has no 32 bits is refused as any other that is too large.
+fn size_of(bytes: &[u8]) -> u32 {
+    u32::try_from(bytes.len()).unwrap_or(u32::MAX)
 }
 
 /// An update of rules alone: 22.

@@ -58,6 +58,15 @@ fn fields_of(mut bytes: &[u8]) -> Option<Vec<Field>> {
 }
 
 /// None where the lists disagree.
+fn listed(keys: &[u8], sizes: &[u32], mut values: &[u8]) -> Option<Vec<Field>> {
+    let mut fields = Vec::new();
+    for (key, &size) in keys.chunks(2).zip(sizes) {
+        fields.push(Field { key: key.try_into().ok()?, value: values.split_off(..size as usize)?.to_vec() });
+    }
+    (keys.len() == 2 * sizes.len() && values.is_empty()).then_some(fields)
+}
+
+/// None where the lists disagree.
 fn statuses_of(ids: &[i16], codes: &[u8], sizes: &[u32], mut raw: &[u8]) -> Option<Vec<Status>> {
     let mut statuses = Vec::new();
     for ((&rule, &code), &size) in ids.iter().zip(codes).zip(sizes) {
@@ -131,6 +140,8 @@ fn typed(name: &str, arguments: &[&[u8]]) -> Option<Answer> {
             .map(|StatusPlace { rule, code, raw }| numbers([(rule as u16).into(), code.into(), raw.start, raw.end])),
         ("rule_may_not_be_disabled", [id]) => Ok(vec![rule_may_not_be_disabled(number(id) as i32).into()]),
         ("pack_extension_bytes", [id, fields]) => pack_extension_bytes(&array(id), &fields_of(fields)?),
+        ("pack_fields", [keys, sizes, values]) => pack_fields(&listed(keys, &list(sizes, u32::from_be_bytes), values)?),
+        ("table_parameters", [table]) => Ok(map(table_of(table).parameters())),
         ("pack_parameters_to_kv", [map]) => {
             let field = |Field { key, value }| [&key[..], &[value.len() as u8], &value].concat();
             Ok(pack_parameters_to_kv(&parameters_of(map)).into_iter().flat_map(field).collect())
@@ -181,6 +192,14 @@ fn lent(name: &str, arguments: &[&[u8]], size: usize, out: &mut [u8]) -> Option<
             Some(fields) => written(pack_extension_bytes_into(&array(id), &fields, out)),
             None => sized(ergo_pack_extension_bytes(id, fields, out)),
         },
+        ("pack_fields", [keys, sizes, values]) => {
+            let sizes = list(sizes, u32::from_be_bytes);
+            match listed(keys, &sizes, values) {
+                Some(fields) => written(pack_fields_into(&fields, out)),
+                None => sized(ergo_pack_fields(keys, &sizes, values, out)),
+            }
+        }
+        ("table_parameters", [table]) => sized(ergo_table_parameters(table, out)),
         ("pack_parameters_to_kv", [map]) => written(pack_parameters_to_kv_into(&parameters_of(map), out)),
         ("encode_validation_settings_update", [rules, ids, codes, sizes, raw]) => {
             let (rules, ids) = (list(rules, u16::from_be_bytes), list(ids, i16::from_be_bytes));

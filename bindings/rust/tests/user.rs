@@ -62,7 +62,11 @@ fn bodies_and_updates_there_and_back() {
     let body = pack_extension_bytes(&ID, &fields).expect("a body");
     let read = parse_extension_bytes(&body).expect("a body");
     assert_eq!((read.header_id(), read.fields(), extract_disabling_rules_from_kv(&body)), (ID, fields, vec![7; 64]));
+    let written = |size| pack_fields(&[field(0), field(size)]).map(|bytes| bytes[3..].to_vec());
+    assert_eq!(written(64), Ok([vec![0, 124, 64], vec![7; 64]].concat()));
+    assert_eq!([65, 255, 256, 70_000].map(written), [(); 4].map(|()| Err(Refusal::WrittenValueLong)));
     assert_eq!(pack_extension_bytes(&ID, &[field(256)]), Err(Refusal::WrittenValueLong));
+    assert_eq!(pack_fields(&vec![field(65); 65_537]), Err(Refusal::InputLong));
     let status = |rule, raw: &[u8]| Status { rule, code: 9, raw: raw.to_vec() };
     let (rules, statuses) = (vec![u16::MAX; 9], vec![status(1_000, &[7, 8]), status(32_767, &[])]);
     let bytes = encode_validation_settings_update(&rules, &statuses).expect("an update");
@@ -73,6 +77,10 @@ fn bodies_and_updates_there_and_back() {
     let all: Parameters = (i8::MIN..=i8::MAX).map(|id| (id, i32::from(id))).collect();
     let body = pack_extension_bytes(&ID, &pack_parameters_to_kv(&all)).expect("a body");
     assert_eq!(parse_parameters_from_kv(&body), Ok(all.into_iter().filter(|(id, _)| *id != 124).collect()));
+    let asked = mainnet().parameters();
+    let body = pack_extension_bytes(&ID, &pack_parameters_to_kv(&asked)).expect("a body");
+    assert_eq!((asked.len(), asked[&123], parse_parameters_from_kv(&body)), (9, 1, Ok(asked.clone())));
+    assert_eq!((check_parameters_v6(&mainnet(), &asked), Table::default().parameters().len()), (Ok(()), 0));
 }
 
 #[test]

@@ -4,14 +4,18 @@ use voting::ordinary;
 use voting::settings::Network;
 use voting::settings::VotingConfig;
 use voting::table;
+use wire::map;
 use wire::values;
+use writers::tables as carried;
 ghost use mathlib.Core.Path.{_≡_};
 ghost use Rattle.codec.specs.Output.{writes};
 ghost use Rattle.voting.specs.Settings.{softForkApproved, changeApproved};
 ghost use Rattle.voting.specs.Table.{defaultParameters};
 ghost use Rattle.voting.specs.Ordinary.{parameterMin, parameterMax, parameterStep};
-ghost use Rattle.wire.specs.Values.{valueBytes, tableBytes, settingsAt, settingsBytes};
-ghost use Rattle.exports.specs.Reply.{reply, numbered};
+ghost use Rattle.writers.specs.Tables.{tableParameters};
+ghost use Rattle.wire.specs.Values.{valueBytes, tableAt, tableBytes, settingsAt, settingsBytes};
+ghost use Rattle.wire.specs.Map.{mapBytes};
+ghost use Rattle.exports.specs.Reply.{reply, numbered, sized};
 ghost use Rattle.exports.specs.Calls.{networkOf, settingsOf, flag};
 
 fn network_of(n: u8) -> Network
@@ -39,6 +43,16 @@ pub extern "C" fn ergo_default_parameters(network: u8, out: &mut [u8]) -> u8
 {
     let t = table::default_parameters(network_of(network));
     answer::number_of(values::write_table(t, out))
+}
+
+// The parameters that a table asks a body to carry, into cells: how many bytes were written, or minus 21.
+#[no_mangle]
+pub extern "C" fn ergo_table_parameters(table: &[u8], out: &mut [u8]) -> usize
+    ensures { λ r. ⌜ reply r (now (out .exit)) ≡ sized (writes (mapBytes (tableParameters (tableAt (now (table .entry)) 0))) (now (out .entry))) ⌝ }
+{
+    let t = values::table_of(table);
+    let m = carried::table_parameters(t);
+    answer::size_of(map::write_map(m, out))
 }
 
 // A network's settings, into cells: 0, or 21.

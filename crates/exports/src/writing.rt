@@ -3,10 +3,12 @@ use crate::answer;
 use wire::map;
 use wire::numbers;
 use writers::encode;
+use writers::fields;
 use writers::pack;
 ghost use mathlib.Core.Path.{_≡_};
 ghost use Rattle.writers.specs.Encode.{encodeUpdate, encodeRules};
 ghost use Rattle.writers.specs.Pack.{packExtension, packParameters};
+ghost use Rattle.writers.specs.Fields.{packFields};
 ghost use Rattle.wire.specs.Numbers.{bytesAt};
 ghost use Rattle.wire.specs.Map.{mapOf};
 ghost use Rattle.exports.specs.Reply.{reply, sized};
@@ -22,6 +24,19 @@ pub extern "C" fn ergo_pack_extension_bytes(
 {
     let id = numbers::header_id_of(header_id);
     answer::size_of(pack::pack_extension_bytes(id, fields, out))
+}
+
+// Fields as they stand in a body, of keys of two bytes each, sizes, and the bytes of all values one after another: minus 22, 24, 3, 5, 21.
+#[no_mangle]
+pub extern "C" fn ergo_pack_fields(
+    keys: &[u8],
+    sizes: &[u32],
+    values: &[u8],
+    out: &mut [u8],
+) -> usize
+    ensures { λ r. ⌜ reply r (now (out .exit)) ≡ sized (packFields (now (keys .entry)) (now (sizes .entry)) (now (values .entry)) (now (out .entry))) ⌝ }
+{
+    answer::size_of(fields::pack_fields(keys, sizes, values, out))
 }
 
 // Parameters as fields: minus 21.

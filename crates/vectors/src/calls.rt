@@ -76,6 +76,9 @@ fn of_bytes(name: &[u8], a: &[u8], n: usize, out: &mut [u8]) -> u16 {
     if check::same(name, b"encode_disabled_rules") {
         return sized(encode_disabled_rules(a, out), n);
     }
+    if check::same(name, b"table_parameters") {
+        return sized(tables::ergo_table_parameters(a, out), n);
+    }
     of_number(name, a, out)
 }
 
@@ -153,18 +156,45 @@ fn of_two(name: &[u8], a: &[u8], b: &[u8], out: &mut [u8]) -> u16 {
     NO_ANSWER
 }
 
-// The boundary on values stands for `ergo_compute_boundary_parameters`: a list of structs can't be made here without a walk by hand. Its
-// promise is the same definition.
 pub(crate) fn with_three(
     name: &[u8],
+    a: &[u8],
+    b: &[u8],
+    c: &[u8],
+    n: usize,
+    out: &mut [u8],
+) -> u16 {
+    if check::same(name, b"compute_boundary_parameters") {
+        return compute_boundary_parameters(a, b, c, out);
+    }
+    if check::same(name, b"pack_fields") {
+        return sized(pack_fields(a, b, c, out), n);
+    }
+    NO_ANSWER
+}
+
+fn pack_fields(keys: &[u8], b: &[u8], values: &[u8], out: &mut [u8]) -> usize {
+    let lists = lists::lists_of(b"", b"", b);
+    let sizes = lists.sizes;
+    pack_sized(keys, &sizes, lists::count(b, 4), values, out)
+}
+
+// The first items of the list of sizes.
+fn pack_sized(keys: &[u8], sizes: &[u32], n: usize, values: &[u8], out: &mut [u8]) -> usize {
+    if sizes.len() < n {
+        return 0;
+    }
+    writing::ergo_pack_fields(keys, &sizes[0..n], values, out)
+}
+
+// The boundary on values stands for `ergo_compute_boundary_parameters`: a list of structs can't be made here without a walk by hand. Its
+// promise is the same definition.
+fn compute_boundary_parameters(
     tally: &[u8],
     proposed: &[u8],
     question: &[u8],
     out: &mut [u8],
 ) -> u16 {
-    if !check::same(name, b"compute_boundary_parameters") {
-        return NO_ANSWER;
-    }
     let q = wire_boundary::question_of(question);
     let config = q.config;
     let table = q.table;

@@ -122,7 +122,7 @@ fn ask_more(name: &[u8], row: Row, bytes: &[u8], out: &mut [u8]) -> u16 {
     let d = row.argument(3, bytes);
     let k = row.arguments;
     match k {
-        3 => calls::with_three(name, a, b, c, out),
+        3 => calls::with_three(name, a, b, c, row.answer(bytes).len(), out),
         4 => calls::with_four(name, a, b, c, d, out),
         _ => calls::with_five(
             name,
