@@ -244,6 +244,7 @@ class Values(Case):
         self.assertEqual(ergo.pack_fields([Field(b"\2\3", b"\7"), Field(b"\0\x7c", b"")]), b"\2\3\1\7\0\x7c\0")
         for size in (65, 255, 256, 70_000):
             self.refused(Refusal.WRITTEN_VALUE_LONG, ergo.pack_fields, [Field(b"\2\3", bytes(size))])
+        self.assertEqual(ergo.pack_fields([Field(b"\2\3", b"")] * 65_536), b"\2\3\0" * 65_536)
         self.refused(Refusal.INPUT_LONG, ergo.pack_fields, [Field(b"\2\3", bytes(65))] * 65_537)
         asked = MAINNET.parameters()
         body = ergo.pack_extension_bytes(ID, ergo.pack_parameters_to_kv(asked))

@@ -66,6 +66,7 @@ fn bodies_and_updates_there_and_back() {
     assert_eq!(written(64), Ok([vec![0, 124, 64], vec![7; 64]].concat()));
     assert_eq!([65, 255, 256, 70_000].map(written), [(); 4].map(|()| Err(Refusal::WrittenValueLong)));
     assert_eq!(pack_extension_bytes(&ID, &[field(256)]), Err(Refusal::WrittenValueLong));
+    assert_eq!(pack_fields(&vec![field(0); 65_536]), Ok([0, 124, 0].repeat(65_536)));
     assert_eq!(pack_fields(&vec![field(65); 65_537]), Err(Refusal::InputLong));
     let status = |rule, raw: &[u8]| Status { rule, code: 9, raw: raw.to_vec() };
     let (rules, statuses) = (vec![u16::MAX; 9], vec![status(1_000, &[7, 8]), status(32_767, &[])]);
