@@ -3,6 +3,7 @@ pub mod Body
 pub mod Parameters
 pub mod Mandatory
 pub mod Update
+pub mod Rules
 pub mod Boundary
 pub mod Order
 pub mod Examples

@@ -19,6 +19,7 @@ use Rattle.extension.specs.declared.update.StatusAt.{StatusAt}
 use Rattle.extension.specs.declared.update.StatusAt.the-variants.{HasStatus, NoStatus}
 use Rattle.extension.specs.declared.update.Update.{Update}
 use Rattle.extension.specs.declared.update.ParsedUpdate.{ParsedUpdate}
+use Rattle.extension.specs.declared.update.Proposed.{Proposed}
 use Rattle.extension.specs.Section.{Reading, got, bad, listing, closed, sectionItems, noSection, refusedSection, part, any}
 use Rattle.extension.specs.Mandatory.{mandatoryRule}
 
@@ -129,3 +130,7 @@ statusesIn s u = sectionItems (readStatus s) (u .statuses)
 -- whether an update disables a rule
 unfoldable pub disables : List ℕ → Update → ℕ → Bool
 disables s u rule = any (eqb rule) (rulesIn s u)
+
+-- an update, and whether it disables a rule
+unfoldable pub proposedOf : List ℕ → ℕ → Proposed
+proposedOf s rule = record { parsed = updateOf s; disables = disables s (updateOf s .update) rule }

@@ -40,16 +40,16 @@ pub fn boundary_with_update(
     ensures { λ r. ⌜ r ≡ computedOf config height table (entries tally) vote (now («proposed_update» .entry)) ⌝ }
     ensures examples { λ r. ⌜ Examples ⌝ }
 {
-    let x = update::parse_validation_settings_update(proposed_update);
+    let p = update::parse_proposed(proposed_update, SUBBLOCKS_RULE);
+    let x = p.parsed;
     let e = x.refusal;
     if e != 0 {
         return refused(e, table);
     }
     let u = x.update;
-    let d = update::disables(proposed_update, u, SUBBLOCKS_RULE);
     activates(
         u,
-        boundary::boundary_parameters(config, height, table, tally, vote, d),
+        boundary::boundary_parameters(config, height, table, tally, vote, p.disables),
     )
 }
 

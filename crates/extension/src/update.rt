@@ -12,10 +12,11 @@ use codec::vlq::Read;
 ghost use mathlib.Core.Path.{_≡_};
 ghost use lib.Dec.{eqb};
 ghost use Rattle.codec.specs.Vlq.{vlqAt};
-ghost use Rattle.extension.specs.Section.{listing, closed, sectionItems, any};
-ghost use Rattle.extension.specs.Mandatory.{mandatoryRule};
+ghost use mathlib.Core.Bool.{false, cond};
+ghost use Rattle.extension.specs.Section.{listing, closed, refusedSection};
+ghost use Rattle.extension.specs.Rules.{RulesAre};
 ghost use Rattle.extension.specs.Encode.{UpdateAgain};
-ghost use Rattle.extension.specs.Update.{ruleAt, readRule, statusAt, placedStatus, readStatus, updateRule, updateStatus, statusRaw, countIn, itemsFrom, noUpdate, refusedUpdate, withStatuses, withRules, updateOf, disables};
+ghost use Rattle.extension.specs.Update.{ruleAt, readRule, statusAt, placedStatus, readStatus, updateRule, updateStatus, statusRaw, countIn, itemsFrom, noUpdate, refusedUpdate, withStatuses, withRules, updateOf, disables, proposedOf};
 
 // A rule to disable, and the position after it. On the wire it is its id and no offset.
 pub struct RulePlace {
@@ -53,20 +54,47 @@ pub struct ParsedUpdate {
     pub update: Update,
 }
 
+// An update, and whether it disables a certain rule.
+pub struct Proposed {
+    pub parsed: ParsedUpdate,
+    pub disables: bool,
+}
+
+// The rules of an update, from one pass over them: their section, whether one is mandatory, and whether a certain one is among them.
+struct Rules {
+    parsed: Parsed,
+    mandatory: bool,
+    listed: bool,
+}
+
 pub fn parse_validation_settings_update(bytes: &[u8]) -> ParsedUpdate
     ensures { λ r. ⌜ r ≡ updateOf (now (bytes .entry)) ⌝ }
     ensures again { λ r. ⌜ UpdateAgain (now (bytes .entry)) (r .update) ⌝ }
 {
+    let p = parse_proposed(bytes, 0);
+    p.parsed
+}
+
+// For the layers above: an update, and whether it disables a rule; a refused one disables none.
+pub fn parse_proposed(bytes: &[u8], rule: u16) -> Proposed
+    ensures { λ r. ⌜ r ≡ proposedOf (now (bytes .entry)) rule ⌝ }
+{
     if INPUT_MOST < bytes.len() {
-        return refused(refusal::INPUT_LONG);
-    }
-    if bytes.len() == 0 {
-        return ParsedUpdate {
-            refusal: 0,
-            update: no_update(),
+        return Proposed {
+            parsed: refused(refusal::INPUT_LONG),
+            disables: false,
         };
     }
-    with_rules(bytes, rules_from(bytes))
+    if bytes.len() == 0 {
+        return Proposed {
+            parsed: ParsedUpdate {
+                refusal: 0,
+                update: no_update(),
+            },
+            disables: false,
+        };
+    }
+    with_rules(bytes, rule, rules_from(bytes, rule))
 }
 
 // What a reader meets at a position of an update: a rule to disable.
@@ -101,13 +129,6 @@ pub fn status_raw(bytes: &[u8], at: usize) -> &[u8]
         }
         StatusAt::NoStatus(_) => &bytes[..0],
     }
-}
-
-// For the layers above: whether an update of these bytes disables a rule.
-pub fn disables(bytes: &[u8], update: Update, rule: u16) -> bool
-    ensures { λ r. ⌜ r ≡ disables (now (bytes .entry)) update rule ⌝ }
-{
-    lists_rule(bytes, update.rules, rule)
 }
 
 pub fn no_update() -> Update
@@ -189,13 +210,24 @@ fn count_in(n: u64) -> u32
     if n < 0x8000_0000 { n as u32 } else { 0 }
 }
 
-// The rules' section: a count at the start, and the rules.
-fn rules_from(bytes: &[u8]) -> Parsed
-    ensures { λ r. ⌜ r ≡ itemsFrom (readRule (now (bytes .entry))) (vlqAt 32 (now (bytes .entry)) 0) ⌝ }
+// The rules: a count at the start, and so many of them.
+fn rules_from(bytes: &[u8], rule: u16) -> Rules
+    ensures { λ r. ⌜ RulesAre (now (bytes .entry)) rule (itemsFrom (readRule (now (bytes .entry))) (vlqAt 32 (now (bytes .entry)) 0)) r ⌝ }
 {
     match vlq::read_u32(bytes, 0) {
-        Read::Value(m) => rules_section(bytes, count_in(m.value), m.next),
-        Read::Unreadable => section::refused(refusal::UPDATE_UNREADABLE),
+        Read::Value(m) => rules_section(bytes, rule, count_in(m.value), m.next),
+        Read::Unreadable => no_rules(refusal::UPDATE_UNREADABLE),
+    }
+}
+
+// Rules that can't be read.
+fn no_rules(refusal: u8) -> Rules
+    ensures { λ r. ⌜ r ≡ record { parsed = refusedSection refusal; mandatory = false; listed = false } ⌝ }
+{
+    Rules {
+        parsed: section::refused(refusal),
+        mandatory: false,
+        listed: false,
     }
 }
 
@@ -210,54 +242,76 @@ fn statuses_from(bytes: &[u8], at: usize) -> Parsed
 }
 
 // After the rules: 8, and then the statuses.
-fn with_rules(bytes: &[u8], rules: Parsed) -> ParsedUpdate
-    ensures { λ r. ⌜ r ≡ withRules (now (bytes .entry)) rules ⌝ }
+fn with_rules(bytes: &[u8], rule: u16, rules: Rules) -> Proposed
+    requires { ⌜ RulesAre (now bytes) rule (rules .parsed) rules ⌝ }
+    ensures { λ r. ⌜ (r .parsed ≡ withRules (now (bytes .entry)) (rules .parsed)) × (r .disables ≡ disables (now (bytes .entry)) (r .parsed .update) rule) ⌝ }
 {
-    let e = rules.refusal;
-    if e != 0 {
-        return refused(e);
+    let x = rules.parsed;
+    if x.refusal != 0 {
+        return Proposed {
+            parsed: refused(x.refusal),
+            disables: false,
+        };
     }
-    let section = rules.section;
-    if any_mandatory(bytes, section) {
-        return refused(refusal::MANDATORY_DISABLED);
+    if rules.mandatory {
+        return Proposed {
+            parsed: refused(refusal::MANDATORY_DISABLED),
+            disables: false,
+        };
     }
-    with_statuses(section, statuses_from(bytes, section.end))
+    let section = x.section;
+    with_statuses(section, rules.listed, statuses_from(bytes, section.end))
 }
 
-fn with_statuses(rules: Section, statuses: Parsed) -> ParsedUpdate
-    ensures { λ r. ⌜ r ≡ withStatuses rules statuses ⌝ }
+fn with_statuses(rules: Section, listed: bool, statuses: Parsed) -> Proposed
+    ensures { λ r. ⌜ r ≡ record { parsed = withStatuses rules statuses; disables = cond (eqb (statuses .refusal) 0) listed false } ⌝ }
 {
     let e = statuses.refusal;
     if e != 0 {
-        return refused(e);
+        return Proposed {
+            parsed: refused(e),
+            disables: false,
+        };
     }
     let section = statuses.section;
-    ParsedUpdate {
-        refusal: 0,
-        update: Update {
-            rules,
-            statuses: section,
+    Proposed {
+        parsed: ParsedUpdate {
+            refusal: 0,
+            update: Update {
+                rules,
+                statuses: section,
+            },
         },
+        disables: listed,
     }
 }
 
-fn rules_section(bytes: &[u8], count: u32, begin: usize) -> Parsed
-    ensures { λ r. ⌜ r ≡ closed count begin (listing (readRule (now (bytes .entry))) count begin) ⌝ }
+fn rules_section(bytes: &[u8], rule: u16, count: u32, begin: usize) -> Rules
+    ensures { λ r. ⌜ RulesAre (now (bytes .entry)) rule (closed count begin (listing (readRule (now (bytes .entry))) count begin)) r ⌝ }
 {
+    let flags = mandatory::mandatory_flags();
+    let mut mandatory = false;
+    let mut listed = false;
     let mut at = begin;
     let mut left = count;
     while 0 < left {
         match read_rule(bytes, at) {
             RuleAt::HasRule(x) => {
+                mandatory = mandatory | mandatory::flag_in(&flags, x.id as u32);
+                listed = listed | (rule == x.id);
                 at = x.next;
             }
             RuleAt::NoRule(e) => {
-                return section::refused(e);
+                return no_rules(e);
             }
         }
         left -= 1;
     }
-    section::read(count, begin, at)
+    Rules {
+        parsed: section::read(count, begin, at),
+        mandatory,
+        listed,
+    }
 }
 
 fn statuses_section(bytes: &[u8], count: u32, begin: usize) -> Parsed
@@ -277,49 +331,4 @@ fn statuses_section(bytes: &[u8], count: u32, begin: usize) -> Parsed
         left -= 1;
     }
     section::read(count, begin, at)
-}
-
-fn any_mandatory(bytes: &[u8], rules: Section) -> bool
-    ensures { λ r. ⌜ r ≡ any mandatoryRule (sectionItems (readRule (now (bytes .entry))) rules) ⌝ }
-{
-    let flags = mandatory::mandatory_flags();
-    let mut at = rules.begin;
-    let mut left = rules.count;
-    while 0 < left {
-        match read_rule(bytes, at) {
-            RuleAt::HasRule(x) => {
-                if mandatory::flag_in(&flags, x.id as u32) {
-                    return true;
-                }
-                at = x.next;
-            }
-            RuleAt::NoRule(_) => {
-                return false;
-            }
-        }
-        left -= 1;
-    }
-    false
-}
-
-fn lists_rule(bytes: &[u8], rules: Section, rule: u16) -> bool
-    ensures { λ r. ⌜ r ≡ any (eqb rule) (sectionItems (readRule (now (bytes .entry))) rules) ⌝ }
-{
-    let mut at = rules.begin;
-    let mut left = rules.count;
-    while 0 < left {
-        match read_rule(bytes, at) {
-            RuleAt::HasRule(x) => {
-                if rule == x.id {
-                    return true;
-                }
-                at = x.next;
-            }
-            RuleAt::NoRule(_) => {
-                return false;
-            }
-        }
-        left -= 1;
-    }
-    false
 }

@@ -56,14 +56,13 @@ pub fn compute_boundary_parameters(
 fn begun(at: BoundaryAt, proposed_update: &[u8]) -> Carried
     ensures { λ r. ⌜ r ≡ begunOf at (now («proposed_update» .entry)) ⌝ }
 {
-    let parsed = update::parse_validation_settings_update(proposed_update);
-    let u = parsed.update;
-    let disables = update::disables(proposed_update, u, SUBBLOCKS_RULE);
+    let p = update::parse_proposed(proposed_update, SUBBLOCKS_RULE);
+    let parsed = p.parsed;
     let table = at.table;
     Carried {
         at,
         parsed,
-        disables,
+        disables: p.disables,
         sweep: values::begin(table),
     }
 }

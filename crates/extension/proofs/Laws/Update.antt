@@ -1,12 +1,12 @@
 -- Rules and statuses at a position, and the tests of an update in order.
 -- Assumes nothing.
-use mathlib.Core.Path.{_≡_, refl}
-use mathlib.Core.Bool.{Bool, true, false, cond}
+use mathlib.Core.Path.{_≡_, refl, sym, ap, _∙_, subst}
+use mathlib.Core.Bool.{Bool, true, false, cond, _||_}
 use mathlib.Core.List.{List, [], _∷_}
 use Prim.Native.Nat.{ℕ, _+_, _-_, _≤_, _<_}
 use native.Mathlib.Omega.{arith}
 use borrow.Author.Tests.{lt-ltb, le-ltb, ltb-false, eq-eqb, ne-eqb}
-use lib.Dec.{ltb}
+use lib.Dec.{ltb, eqb}
 use lib.IntN.{ℤ}
 use lib.ListN.{length, getD}
 use Rattle.codec.specs.Refusal.{updateUnreadable, mandatoryDisabled, inputLong}
@@ -22,10 +22,16 @@ use Rattle.extension.specs.declared.update.RulePlace.{RulePlace}
 use Rattle.extension.specs.declared.update.RuleAt.the-variants.{HasRule, NoRule}
 use Rattle.extension.specs.declared.update.StatusPlace.{StatusPlace}
 use Rattle.extension.specs.declared.update.StatusAt.the-variants.{HasStatus, NoStatus}
-use Rattle.extension.specs.Section.{Reading, got, bad, listing, items, closed, sectionItems, refusedSection, part, any}
+use Rattle.extension.specs.Section.{Reading, got, bad, Listing, done, item, listing, items, section, closed, sectionItems, refusedSection, part, any}
 use Rattle.extension.specs.Mandatory.{mandatoryRule}
-use Rattle.extension.specs.Update.{placedRule, ruleAt, ruleReading, readRule, Status, placedStatus, offsetThen, statusAt, statusReading, readStatus, updateRule, updateStatus, rawOf, statusRaw, countIn, itemsFrom, noUpdate, refusedUpdate, withStatuses, withRules, updateOf}
-use Rattle.extension.proofs.Laws.Section.{listing-stop, listing-item, items-stop, items-item}
+use Rattle.extension.specs.Update.{placedRule, ruleAt, ruleReading, readRule, Status, placedStatus, offsetThen, statusAt, statusReading, readStatus, updateRule, updateStatus, rawOf, statusRaw, countIn, itemsFrom, noUpdate, refusedUpdate, withStatuses, withRules, updateOf, rulesIn, disables, proposedOf}
+use Rattle.extension.proofs.Laws.Section.{listing-stop, listing-item, items-stop, items-item, no-items}
+use Rattle.voting.proofs.Laws.Tests.{by-test}
+use Rattle.extension.specs.declared.update.ParsedUpdate.{ParsedUpdate}
+use Rattle.extension.specs.declared.update.Proposed.{Proposed}
+use Rattle.extension.specs.declared.update.Update.{Update}
+use Rattle.extension.specs.declared.update.Rules.{Rules}
+use Rattle.extension.specs.Rules.{RulesAre}
 
 -- the rule at a position
 module _ (s : List ℕ) (at : ℕ) where
@@ -201,3 +207,99 @@ module _ (s : List ℕ) where
     pub update-read : (length s ≡ 0 → ⊥) → (x : Parsed) → x ≡ itemsFrom (readRule s) (vlqAt 32 s 0) → withRules s x ≡ updateOf s
     unfolding updateOf
     update-read d x q = rw (le-ltb _ _ h, ne-eqb _ _ d, q)
+
+-- ---- the rules in one pass
+
+or-assoc : (a b c : Bool) → ((a || b) || c) ≡ (a || (b || c))
+or-assoc true b c = refl
+or-assoc false b c = refl
+
+or-false : (a : Bool) → (a || false) ≡ a
+or-false true = refl
+or-false false = refl
+
+-- a test gathered over the items that are read
+module _ {A : Type 0} (p : A → Bool) (l : Listing A) where
+  pub gather-item : (a : A) (rest : Listing A) → l ≡ item a rest → (so-far here : Bool) → here ≡ p a → ((so-far || here) || any p (items rest)) ≡ (so-far || any p (items l))
+  unfolding items any
+  gather-item a rest e so-far here q = rw (e, q) (or-assoc so-far (p a) (any p (items rest)))
+
+  pub gather-done : (at : ℕ) → l ≡ done at → (so-far : Bool) → so-far ≡ (so-far || any p (items l))
+  unfolding items any
+  gather-done at e so-far = rw e (sym (or-false so-far))
+
+module _ (s : List ℕ) (rule : ℕ) where
+  disables-none : false ≡ disables s noUpdate rule
+  unfolding disables rulesIn any
+  disables-none = sym (ap (any (eqb rule)) (no-items (readRule s)))
+
+  -- what is proposed, by the parsed update
+  pub refused-none : (u : ParsedUpdate) (e : ℕ) → u ≡ refusedUpdate e → false ≡ disables s (u .update) rule
+  refused-none u e q = disables-none ∙ ap (λ (v : ParsedUpdate). disables s (v .update) rule) (sym q)
+
+  proposed-none : (u : ParsedUpdate) → u .update ≡ noUpdate → u ≡ updateOf s → record { parsed = u; disables = false } ≡ proposedOf s rule
+  unfolding proposedOf
+  proposed-none u n q = rw (← q, n, ← disables-none)
+
+  pub proposed-refused : (u : ParsedUpdate) (e : ℕ) → u ≡ refusedUpdate e → refusedUpdate e ≡ updateOf s → record { parsed = u; disables = false } ≡ proposedOf s rule
+  proposed-refused u e is-u q = proposed-none u (ap (λ (v : ParsedUpdate). v .update) is-u) (is-u ∙ q)
+
+  pub proposed-empty : (n : Update) → n ≡ noUpdate → record { refusal = 0; update = noUpdate } ≡ updateOf s → record { parsed = record { refusal = 0; update = n }; disables = false } ≡ proposedOf s rule
+  proposed-empty n is-n q = proposed-none (record { refusal = 0; update = n }) is-n (ap {B = ParsedUpdate} (λ (m : Update). record { refusal = 0; update = m }) is-n ∙ q)
+
+  module _ (p : Proposed) where
+    pub proposed-read : (x : ParsedUpdate) → p .parsed ≡ x → p .disables ≡ disables s (p .parsed .update) rule → x ≡ updateOf s → p ≡ proposedOf s rule
+    unfolding proposedOf
+    proposed-read x is-x d q = let u : p .parsed ≡ updateOf s = is-x ∙ q in rw (← u, ← d)
+
+    pub proposed-parsed : p ≡ proposedOf s rule → p .parsed ≡ updateOf s
+    unfolding proposedOf
+    proposed-parsed q = ap (λ (r : Proposed). r .parsed) q
+
+    pub proposed-disables : p ≡ proposedOf s rule → p .disables ≡ disables s (p .parsed .update) rule
+    unfolding proposedOf
+    proposed-disables q = ap (λ (r : Proposed). r .disables) q ∙ ap (λ (u : ParsedUpdate). disables s (u .update) rule) (sym (proposed-parsed q))
+
+  pub disables-with : (rules : Section) (y : Parsed) (l : Bool) → l ≡ any (eqb rule) (sectionItems (readRule s) rules)
+      → cond (eqb (y .refusal) 0) l false ≡ disables s (withStatuses rules y .update) rule
+  unfolding disables rulesIn withStatuses
+  disables-with rules y l is-l =
+      by-test (eqb (y .refusal) 0)
+      (λ t. rw t is-l)
+      (λ t. rw t disables-none)
+
+-- rules that can't be read, and rules that are
+module _ (s : List ℕ) (rule : ℕ) (x : Parsed) where
+  pub rules-refused : (e : ℕ) → refusedSection e ≡ x → RulesAre s rule x (record { parsed = refusedSection e; mandatory = false; listed = false })
+  unfolding any
+  rules-refused e q =
+      let none : sectionItems (readRule s) (x .section) ≡ [] = ap (λ (y : Parsed). sectionItems (readRule s) (y .section)) (sym q) ∙ no-items (readRule s) in
+      record { parsed = q; mandatory = λ z. sym (ap (any mandatoryRule) none); listed = λ z. sym (ap (any (eqb rule)) none) }
+
+  pub rules-ended : (count begin at : ℕ) (p : Parsed) → p ≡ record { refusal = 0; section = section count begin at } → p ≡ x → (m l : Bool)
+      → m ≡ any mandatoryRule (items (listing (readRule s) count begin)) → l ≡ any (eqb rule) (items (listing (readRule s) count begin))
+      → RulesAre s rule x (record { parsed = p; mandatory = m; listed = l })
+  unfolding sectionItems
+  rules-ended count begin at p is-p q m l is-m is-l =
+      let all : items (listing (readRule s) count begin) ≡ sectionItems (readRule s) (x .section) = ap (λ (y : Parsed). sectionItems (readRule s) (y .section)) (sym is-p ∙ q) in
+      record { parsed = q; mandatory = λ z. is-m ∙ ap (any mandatoryRule) all; listed = λ z. is-l ∙ ap (any (eqb rule)) all }
+
+  -- the same rules, said of another writing of their section
+  pub rules-moved : (y : Parsed) → x ≡ y → (r : Rules) → RulesAre s rule x r → RulesAre s rule y r
+  rules-moved y e r h = subst (λ (z : Parsed). RulesAre s rule z r) e h
+
+-- what is proposed, by the statuses that follow the rules
+module _ (rules : Section) (x : Parsed) (listed : Bool) where
+  abbrev pub proposedWith : Proposed
+  proposedWith = record { parsed = withStatuses rules x; disables = cond (eqb (x .refusal) 0) listed false }
+
+  pub proposed-cut : (x .refusal ≡ 0 → ⊥) → (u : ParsedUpdate) → u ≡ refusedUpdate (x .refusal) → record { parsed = u; disables = false } ≡ proposedWith
+  unfolding withStatuses
+  proposed-cut d u q = rw (q, ne-eqb _ _ d)
+
+  pub proposed-whole : x .refusal ≡ 0 → record { parsed = record { refusal = 0; update = record { rules = rules; statuses = x .section } }; disables = listed } ≡ proposedWith
+  unfolding withStatuses
+  proposed-whole z = rw (eq-eqb _ _ z)
+
+  pub with-told : (s : List ℕ) (rule : ℕ) (p : Proposed) → p ≡ proposedWith → listed ≡ any (eqb rule) (sectionItems (readRule s) rules) → p .disables ≡ disables s (p .parsed .update) rule
+  with-told s rule p q l = subst (λ (r : Proposed). r .disables ≡ disables s (r .parsed .update) rule) (sym q) (disables-with s rule rules x listed l)

@@ -1,6 +1,7 @@
 -- `extension::update::rules_from` meets its contract. Assumes nothing.
-use mathlib.Core.Path.{sym, _∙_}
-use Rattle.extension.proofs.Laws.Update.{from-count, from-unreadable}
+use Rattle.extension.proofs.Laws.Update.{from-count, from-unreadable, rules-refused, rules-moved}
+use Rattle.extension.specs.Rules.{RulesAre}
+use mathlib.Core.Path.{sym, _∙_, subst}
 use borrow.Author.Needs.{needs}
 use Rattle.extension.proofs.update.rules_from.Statement.{statement}
 use Rattle.extension.proofs.update.rules_from.Tie as tie
@@ -20,16 +21,18 @@ rules-section-requires c κs = search needs
 enum-told : tie.Need-enum-told
 enum-told c = search needs
 
-refused-requires : tie.Need-refused-requires
-refused-requires c κs = search needs
+no-rules-requires : tie.Need-no-rules-requires
+no-rules-requires c κs = search needs
 
 returns : tie.Need-returns
 returns c =
-    c .rules-section .ensures
-    ∙ from-count _ _ _ (sym (c .before .before .before .m .given .1) ∙ c .before .before .before .before .before .read-u32 .ensures) _ (c .before .count-in .ensures)
+    let m = c .before .before .before in
+    rules-moved _ _ _ _ (from-count _ _ _ (sym (m .m .given .1) ∙ m .before .before .read-u32 .ensures) _ (c .before .count-in .ensures)) _ (c .rules-section .ensures)
 
 returns-2 : tie.Need-returns-2
-returns-2 c = c .refused .ensures ∙ from-unreadable _ _ (sym (c .before .enum-told .given .1) ∙ c .before .before .before .read-u32 .ensures)
+returns-2 c =
+    subst (RulesAre _ _ _) (sym (c .no-rules .ensures))
+    (rules-refused _ _ _ _ (from-unreadable _ _ (sym (c .before .enum-told .given .1) ∙ c .before .before .before .read-u32 .ensures)))
 
 pub rules-from-spec : {M : Type 1} → statement M
 rules-from-spec =
@@ -40,6 +43,6 @@ rules-from-spec =
     count-in-requires
     rules-section-requires
     enum-told
-    refused-requires
+    no-rules-requires
     returns
     returns-2)
