@@ -10,6 +10,7 @@ use crate::record::{first_votes, read_record};
 use crate::refusal::Refusal;
 use crate::replay::{self, State};
 use crate::rules::{self, Question, Votes, MOST};
+use crate::table::to_map;
 
 const STATE_SIZE: usize = 95;
 
@@ -54,6 +55,8 @@ pub fn answer(call: &Call) -> Given {
         "rule_may_not_be_disabled" if a(0).u32() > 65_535 => Err(Gap::NoCounterpart),
         "rule_may_not_be_disabled" => accepted(vec![rules::mandatory(a(0).u32() as u16).into()]),
         "pack_extension_bytes" => told(rules::pack_body(a(0).array(), &listed_fields(bytes(1))?), Vec::from),
+        "pack_fields" => told(rules::pack_body([0; 32], &fields_in(call)?), |body| behind_count(&body)),
+        "table_parameters" => accepted(map_bytes(&to_map(&a(0).table()))),
         "pack_parameters_to_kv" => accepted(field_bytes(&voting::pack_parameters_to_kv(&a(0).map()))),
         "encode_validation_settings_update" => told(rules::encode_update(&listed_update(call)?), Vec::from),
         "encode_disabled_rules" => told(rules::encode_rules(&a(0).items(u16::from_be_bytes)), Vec::from),
@@ -128,6 +131,27 @@ fn listed_fields(mut bytes: &[u8]) -> Result<Vec<ExtensionField>, Gap> {
         bytes = rest;
     }
     Ok(fields)
+}
+
+/// The lists must fit one another: the Rust has one list of fields.
+fn fields_in(call: &Call) -> Result<Vec<ExtensionField>, Gap> {
+    let [keys, sizes, mut values] = [0, 1, 2].map(|i| &call.arguments[i][..]);
+    let (keys, odd) = keys.as_chunks();
+    let sizes = Input(sizes).items(u32::from_be_bytes);
+    let mut fields = Vec::new();
+    for (&key, &size) in keys.iter().zip(&sizes) {
+        let (value, rest) = values.split_at_checked(size as usize).ok_or(Gap::NoCounterpart)?;
+        fields.push((key, value.to_vec()));
+        values = rest;
+    }
+    let fit = odd.is_empty() && keys.len() == sizes.len() && values.is_empty();
+    if fit { Ok(fields) } else { Err(Gap::NoCounterpart) }
+}
+
+/// The fields of a body that the Rust wrote, without the id and the count before them.
+fn behind_count(body: &[u8]) -> Vec<u8> {
+    let count = body[32..].iter().take_while(|&&byte| byte >= 128).count() + 1;
+    body[32 + count..].to_vec()
 }
 
 /// The lists of statuses must fit one another: the Rust has one list of them.

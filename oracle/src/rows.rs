@@ -23,7 +23,7 @@ const MOST_PRINTED: usize = 300;
 
 /// The calls that have rows, how many arguments each has, the Rust's function, how many rows each number gets beside the chosen ones,
 /// and the numbers that it must have. A flag counts as a number.
-const CALLS: [(&str, usize, &str, usize, &[u8]); 29] = [
+const CALLS: [(&str, usize, &str, usize, &[u8]); 31] = [
     ("check_header_votes", 1, "check_header_votes", 25, &[0, 9, 10, 11]),
     ("check_headers", 1, "check_header_votes, of headers one after another", 15, &[0, 9, 10, 11]),
     ("tally_votes_seeded", 4, "tally_votes_seeded", 25, &[0]),
@@ -48,7 +48,9 @@ const CALLS: [(&str, usize, &str, usize, &[u8]); 29] = [
     ("status_at", 2, "parse_validation_settings_update, of an update with that status", 20, &[0, 7]),
     ("rule_may_not_be_disabled", 1, "parse_validation_settings_update, of an update with that rule", 0, &[0, 1]),
     ("pack_extension_bytes", 2, "pack_extension_bytes", 15, &[0]),
+    ("pack_fields", 3, "pack_extension_bytes, without the id and the count", 15, &[0]),
     ("pack_parameters_to_kv", 1, "pack_parameters_to_kv", 15, &[0]),
+    ("table_parameters", 1, "the entries of its table", 15, &[0]),
     ("encode_validation_settings_update", 5, "encode_validation_settings_update", 20, &[0, 23]),
     ("encode_disabled_rules", 1, "encode_disabled_rules", 15, &[0]),
     ("open", 2, "the oracle's opening", 15, &[0, 26]),

@@ -58,6 +58,8 @@ fn ask(call: &Call, out: &mut [u8]) -> Reply {
         "status_at" => Number(ffi::ergo_status_at(a(0), number(1) as usize, out)),
         "rule_may_not_be_disabled" => Flag(ffi::ergo_rule_may_not_be_disabled(number(0) as i32)),
         "pack_extension_bytes" => Size(ffi::ergo_pack_extension_bytes(a(0), a(1), out)),
+        "pack_fields" => Size(ffi::ergo_pack_fields(a(0), &Input(a(1)).items(u32::from_be_bytes), a(2), out)),
+        "table_parameters" => Size(ffi::ergo_table_parameters(a(0), out)),
         "pack_parameters_to_kv" => Size(ffi::ergo_pack_parameters_to_kv(a(0), out)),
         "encode_validation_settings_update" => {
             let [rules, ids, sizes] = [a(0), a(1), a(3)].map(Input);

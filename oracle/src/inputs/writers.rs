@@ -2,6 +2,8 @@
 
 use super::random::Random;
 use super::updates::rule;
+use super::voting::any_table;
+use crate::bytes::{numbers, table_bytes};
 use crate::call::Call;
 
 pub fn make(random: &mut Random) -> Vec<Call> {
@@ -11,6 +13,18 @@ pub fn make(random: &mut Random) -> Vec<Call> {
         2 => Call::new("encode_validation_settings_update", update(random)),
         _ => Call::new("encode_disabled_rules", [rules(random, &[0, 1, 2, 3, 9, 127, 128, 129])]),
     }]
+}
+
+/// Fields as keys, sizes and values, which fit one another, a few of them too long; and the parameters of a table.
+pub fn lists(random: &mut Random) -> Vec<Call> {
+    if random.one_in(2) {
+        return vec![Call::new("table_parameters", [table_bytes(&any_table(random))])];
+    }
+    let count = random.pick(&[0, 1, 2, 3, 20, 127, 128, 130]);
+    let most = if random.one_in(60) { 300 } else { 64 };
+    let sizes: Vec<usize> = (0..count).map(|_| if random.one_in(2) { 4 } else { random.below(most + 1) }).collect();
+    let values = random.bytes(sizes.iter().sum());
+    vec![Call::new("pack_fields", [random.bytes(2 * count), numbers(&sizes), values])]
 }
 
 fn fields(random: &mut Random) -> Vec<u8> {
