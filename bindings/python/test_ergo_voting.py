@@ -191,7 +191,7 @@ class Rows(Case):
         return names
 
     def test_rows_of_the_rust(self):
-        self.assertEqual(len(self.ask("rust.rows")), 29)
+        self.assertEqual(len(self.ask("rust.rows")), 31)
 
     def test_rows_of_the_rules(self):
         self.assertTrue(self.ask("edges.rows"))

@@ -260,7 +260,7 @@ fn run(rows: &str) -> usize {
 
 #[test]
 fn rows_of_the_rust() {
-    assert_eq!(run(include_str!("../../../crates/vectors/data/rust.rows")), 29, "all calls that have rows");
+    assert_eq!(run(include_str!("../../../crates/vectors/data/rust.rows")), 31, "all calls that have rows");
 }
 
 #[test]
