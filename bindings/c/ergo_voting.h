@@ -48,7 +48,6 @@ enum ergo_refusal {
     ERGO_ENTRY_DIFFERS = 15,          /* a computed entry is missing or different in the extension; the answer carries
                                          its id */
     ERGO_BLOCK_VERSION_DIFFERS = 16,  /* a block's version is not the table's */
-    ERGO_TRAILING_BYTES = 31,         /* a body has bytes after its last field, and they are not ignored */
     /* The supplier of tables and settings. */
     ERGO_VOTING_LENGTH_ZERO = 17,     /* the voting length is 0 */
     ERGO_SETTING_LARGE = 18,          /* a length or a number of epochs is above 65,535 */
@@ -259,16 +258,11 @@ uint8_t ergo_check_block_version(const uint8_t *table, size_t table_len, uint8_t
 
 /* Extension bodies. */
 
-/* What becomes of bytes after the last field of a body: the strict reading, and the old one, which a replay takes. The
-   calls below that ask for no such choice do not judge them. */
-enum ergo_trailing { ERGO_TRAILING_REFUSED = 0, ERGO_TRAILING_IGNORED = 1 };
+/* Whether a body is in form: 22, 1 to 6. */
+uint8_t ergo_check_body(const uint8_t *bytes, size_t bytes_len);
 
-/* Whether a body is in form: 22, 1 to 6, 31. */
-uint8_t ergo_check_body(const uint8_t *bytes, size_t bytes_len, uint8_t trailing);
-
-/* The section of a body's fields, ERGO_SECTION_SIZE bytes: 22, 1 to 5, 31, 21. The id is the body's first 32 bytes. */
-uint8_t ergo_parse_extension_bytes(const uint8_t *bytes, size_t bytes_len, uint8_t trailing, uint8_t *out,
-                                   size_t out_len);
+/* The section of a body's fields, ERGO_SECTION_SIZE bytes: 22, 1 to 5, 21. The id is the body's first 32 bytes. */
+uint8_t ergo_parse_extension_bytes(const uint8_t *bytes, size_t bytes_len, uint8_t *out, size_t out_len);
 
 /* The field at a position of a body, ERGO_FIELD_SIZE bytes: 22, 3, 4, 5, 21. The next one stands where its value
    ends. */

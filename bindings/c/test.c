@@ -127,7 +127,7 @@ static void fields_and_parameters(void) {
     assert(ergo_pack_fields(key, 2, size, 1, value, 0, fields, sizeof fields) == -ERGO_VALUE_CUT);
     assert(ergo_pack_fields(key, 2, size, 1, value, 1, fields, 3) == -ERGO_OUTPUT_SHORT);
     int64_t written = ergo_pack_extension_bytes(id, sizeof id, fields, (size_t)first + 4, body, sizeof body);
-    assert(written == 100 && ergo_check_body(body, (size_t)written, ERGO_TRAILING_REFUSED) == 0);
+    assert(written == 100 && ergo_check_body(body, (size_t)written) == 0);
     assert(ergo_parse_parameters_from_kv(body, (size_t)written, back, sizeof back) == entries);
     assert(memcmp(back, map, (size_t)entries) == 0);
 }
@@ -144,8 +144,8 @@ static void nothing_lent(void) {
     assert(ergo_check_fork_vote(NULL, 0, 0, NULL, 0, NULL, 0) == 0 && ergo_check_parameters_v6(NULL, 0, NULL, 0) == 0);
     assert(ergo_compute_boundary_parameters(NULL, 0, NULL, 0, NULL, 0, NULL, 0) == ERGO_VOTING_LENGTH_ZERO);
     assert(ergo_check_block_version(NULL, 0, 1) == ERGO_BLOCK_VERSION_ABSENT);
-    assert(ergo_check_body(NULL, 0, ERGO_TRAILING_REFUSED) == ERGO_BODY_SHORT);
-    assert(ergo_parse_extension_bytes(NULL, 0, ERGO_TRAILING_REFUSED, NULL, 0) == ERGO_BODY_SHORT);
+    assert(ergo_check_body(NULL, 0) == ERGO_BODY_SHORT);
+    assert(ergo_parse_extension_bytes(NULL, 0, NULL, 0) == ERGO_BODY_SHORT);
     assert(ergo_field_at(NULL, 0, 0, NULL, 0) == ERGO_FIELD_HEADER_CUT);
     assert(ergo_parse_parameters_from_kv(NULL, 0, NULL, 0) == -ERGO_BODY_SHORT);
     assert(ergo_extract_disabling_rules_from_kv(NULL, 0, NULL, 0) == 0);

@@ -87,7 +87,6 @@ class Refusal(enum.IntEnum):
     WRITTEN_VALUE_LONG = 24, "a value over 64 bytes is to be written"
     RECORD_MALFORMED = 25, "a record is malformed"
     HEIGHT_UNEXPECTED = 26, "a height is not the expected one, or past the last one allowed"
-    TRAILING_BYTES = 31, "a body has bytes after its last field, and they are not ignored"
     WINDOW_LENGTH_OUTSIDE = 33, "a window for support is to span no header, or more than 4,096"
 
 
@@ -131,8 +130,8 @@ SIGNATURES = """
     ergo_compute_boundary_parameters(tally: &[Entry], proposed_update: &[u8], question: &[u8], out: &mut [u8]) -> u8
     ergo_check_parameters_v6(table: &[u8], parameters: &[u8]) -> u16
     ergo_check_block_version(table: &[u8], version: u8) -> u8
-    ergo_check_body(bytes: &[u8], trailing: u8) -> u8
-    ergo_parse_extension_bytes(bytes: &[u8], trailing: u8, out: &mut [u8]) -> u8
+    ergo_check_body(bytes: &[u8]) -> u8
+    ergo_parse_extension_bytes(bytes: &[u8], out: &mut [u8]) -> u8
     ergo_field_at(bytes: &[u8], at: usize, out: &mut [u8]) -> u8
     ergo_parse_parameters_from_kv(bytes: &[u8], out: &mut [u8]) -> i64
     ergo_extract_disabling_rules_from_kv(bytes: &[u8], out: &mut [u8]) -> i64
@@ -503,21 +502,14 @@ class Extension:
     fields: list[Field]
 
 
-class Trailing(enum.IntEnum):
-    """What becomes of bytes after the last field of a body: they are refused, or ignored, as a replay does."""
-
-    REFUSED = 0
-    IGNORED = 1
+def check_body(body: bytes) -> None:
+    """Whether a body is in form: 22, 1 to 6."""
+    _accept(call("ergo_check_body", body))
 
 
-def check_body(body: bytes, trailing: Trailing = Trailing.REFUSED) -> None:
-    """Whether a body is in form: 22, 1 to 6, 31."""
-    _accept(call("ergo_check_body", body, trailing))
-
-
-def parse_extension_bytes(body: bytes, trailing: Trailing = Trailing.REFUSED) -> Extension:
-    """Reads a body: 22, 1 to 5, 31."""
-    count, begin, _ = struct.unpack(">3I", _filled(SECTION_SIZE, "ergo_parse_extension_bytes", body, trailing))
+def parse_extension_bytes(body: bytes) -> Extension:
+    """Reads a body: 22, 1 to 5."""
+    count, begin, _ = struct.unpack(">3I", _filled(SECTION_SIZE, "ergo_parse_extension_bytes", body))
     return Extension(bytes(body[:32]), _items(field_at, body, count, begin))
 
 

@@ -39,8 +39,6 @@ pub fn answer(call: &Call) -> Given {
         "parameter_min" => accepted(value_bytes(voting::parameter_min(id()))),
         "parameter_max" => accepted(value_bytes(voting::parameter_max(id()))),
         "parameter_step" => accepted(value_bytes(voting::parameter_step(id()))),
-        // The Rust ignores bytes after the last field.
-        "check_body" | "parse_extension_bytes" if a(1).byte() == 0 => Err(Gap::NoCounterpart),
         "check_body" => told(rules::body_parameters(body(bytes(0))?), nothing),
         "parse_extension_bytes" => {
             told(rules::parse_body(body(bytes(0))?), |fields| numbers(&places::section(&places::fields(bytes(0), &fields))))

@@ -58,35 +58,15 @@ pub fn fields_of(bytes: &[u8], section: Section) -> Vec<Field> {
     (0..section.count).map(|_| next()).collect()
 }
 
-/// What becomes of bytes after the last field of a body.
-#[derive(Debug, Clone, Copy, PartialEq, Eq, Hash, Default)]
-pub enum Trailing {
-    /// They are refused, by 31.
-    #[default]
-    Refused = 0,
-    /// They are ignored: the old reading, which a replay takes.
-    Ignored = 1,
-}
-
-/// Whether a body is in form: 22, 1 to 6, 31.
+/// Whether a body is in form: 22, 1 to 6.
 pub fn check_body(body: &[u8]) -> Result<(), Refusal> {
-    check_body_as(body, Trailing::default())
+    accepted(ffi::ergo_check_body(body))
 }
 
-/// The same, by a choice of what becomes of bytes after the last field.
-pub fn check_body_as(body: &[u8], trailing: Trailing) -> Result<(), Refusal> {
-    accepted(ffi::ergo_check_body(body, trailing as u8))
-}
-
-/// Reads a body: 22, 1 to 5, 31.
+/// Reads a body: 22, 1 to 5.
 pub fn parse_extension_bytes(body: &[u8]) -> Result<Extension<'_>, Refusal> {
-    parse_extension_bytes_as(body, Trailing::default())
-}
-
-/// The same, by a choice of what becomes of bytes after the last field.
-pub fn parse_extension_bytes_as(body: &[u8], trailing: Trailing) -> Result<Extension<'_>, Refusal> {
     let mut out = [0; SECTION_SIZE];
-    accepted(ffi::ergo_parse_extension_bytes(body, trailing as u8, &mut out))?;
+    accepted(ffi::ergo_parse_extension_bytes(body, &mut out))?;
     Ok(Extension { bytes: body, fields: Section::from_bytes(&out) })
 }
 

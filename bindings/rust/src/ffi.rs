@@ -56,8 +56,8 @@ library! {
     fn ergo_check_parameters_v6(table: &[u8], parameters: &[u8]) -> u16;
     fn ergo_check_block_version(table: &[u8], version: u8) -> u8;
 
-    fn ergo_check_body(bytes: &[u8], trailing: u8) -> u8;
-    fn ergo_parse_extension_bytes(bytes: &[u8], trailing: u8, out: &mut [u8]) -> u8;
+    fn ergo_check_body(bytes: &[u8]) -> u8;
+    fn ergo_parse_extension_bytes(bytes: &[u8], out: &mut [u8]) -> u8;
     fn ergo_field_at(bytes: &[u8], at: usize, out: &mut [u8]) -> u8;
     fn ergo_parse_parameters_from_kv(bytes: &[u8], out: &mut [u8]) -> i64;
     fn ergo_extract_disabling_rules_from_kv(bytes: &[u8], out: &mut [u8]) -> i64;

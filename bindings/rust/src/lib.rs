@@ -34,8 +34,8 @@ mod window;
 mod writers;
 
 pub use body::{
-    check_body, check_body_as, extract_disabling_rules_from_kv, field_at, parse_extension_bytes, parse_extension_bytes_as,
-    parse_parameters_from_kv, Extension, Field, FieldPlace, Parameters, Trailing,
+    check_body, extract_disabling_rules_from_kv, field_at, parse_extension_bytes, parse_parameters_from_kv, Extension, Field,
+    FieldPlace, Parameters,
 };
 pub use boundary::{check_block_version, check_parameters_v6, compute_boundary_parameters, Computed};
 pub use bytes::Section;

@@ -35,14 +35,13 @@ pub enum Refusal {
     WrittenValueLong,
     RecordMalformed,
     HeightUnexpected,
-    TrailingBytes,
     WindowLengthOutside,
 }
 
 use Refusal::*;
 
 /// Each with its number and its words in docs/RULES.md, in the order of the numbers.
-const ALL: [(u8, Refusal, &str); 28] = [
+const ALL: [(u8, Refusal, &str); 27] = [
     (1, BodyShort, "a body has fewer than 32 bytes"),
     (2, CountUnreadable, "the number of fields can't be read"),
     (3, FieldHeaderCut, "a field's key or length is cut"),
@@ -74,7 +73,6 @@ const ALL: [(u8, Refusal, &str); 28] = [
     (24, WrittenValueLong, "a value over 64 bytes is to be written"),
     (25, RecordMalformed, "a record is malformed"),
     (26, HeightUnexpected, "a height is not the expected one, or past the last one allowed"),
-    (31, TrailingBytes, "a body has bytes after its last field, and they are not ignored"),
     (33, WindowLengthOutside, "a window for support is to span no header, or more than 4,096"),
 ];
 

@@ -5,7 +5,6 @@ use ergo_voting::*;
 
 const UNTOUCHED: u8 = 0xee;
 const NETWORKS: [Network; 2] = [Network::Mainnet, Network::Testnet];
-const TRAILING: [Trailing; 2] = [Trailing::Refused, Trailing::Ignored];
 
 /// A refusal's number or 0, and bytes.
 type Answer = (u8, Vec<u8>);
@@ -127,10 +126,9 @@ fn typed(name: &str, arguments: &[&[u8]]) -> Option<Answer> {
         ("parameter_min", [&[id]]) => Ok(value(parameter_min(id as i8))),
         ("parameter_max", [&[id]]) => Ok(value(parameter_max(id as i8))),
         ("parameter_step", [&[id]]) => Ok(value(parameter_step(id as i8))),
-        ("check_body", [body, &[choice]]) => check_body_as(body, TRAILING[usize::from(choice.min(1))]).map(|()| vec![]),
-        ("parse_extension_bytes", [body, &[choice]]) => {
-            let choice = TRAILING[usize::from(choice.min(1))];
-            parse_extension_bytes_as(body, choice).map(|it| section(it.fields_section(), it.fields().len()))
+        ("check_body", [body]) => check_body(body).map(|()| vec![]),
+        ("parse_extension_bytes", [body]) => {
+            parse_extension_bytes(body).map(|it| section(it.fields_section(), it.fields().len()))
         }
         ("field_at", [body, at]) => field_at(body, number(at) as usize)
             .map(|FieldPlace { key: [key0, key1], value }| numbers([key0.into(), key1.into(), value.start, value.end])),
@@ -183,7 +181,7 @@ fn lent(name: &str, arguments: &[&[u8]], size: usize, out: &mut [u8]) -> Option<
         ("parameter_min", [&[id]]) => ergo_parameter_min(id as i8, out),
         ("parameter_max", [&[id]]) => ergo_parameter_max(id as i8, out),
         ("parameter_step", [&[id]]) => ergo_parameter_step(id as i8, out),
-        ("parse_extension_bytes", [body, &[choice]]) => ergo_parse_extension_bytes(body, choice, out),
+        ("parse_extension_bytes", [body]) => ergo_parse_extension_bytes(body, out),
         ("field_at", [body, at]) => ergo_field_at(body, number(at) as usize, out),
         ("parse_parameters_from_kv", [body]) => sized(ergo_parse_parameters_from_kv(body, out)),
         ("extract_disabling_rules_from_kv", [body]) => sized(ergo_extract_disabling_rules_from_kv(body, out)),

@@ -6,5 +6,4 @@ pub mod Rounds
 pub mod Steps
 pub mod StepsExample
 pub mod Replay
-pub mod Trailing
 pub mod Least

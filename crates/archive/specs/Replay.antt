@@ -1,6 +1,6 @@
 -- The replay of a record: the tests in order, and the next state. docs/RULES.md, "Replay".
 -- Assumes nothing.
-use Rattle.std.specs.Prelude.{ℕ, zero, suc, ◌+◌, ◌*◌, ◌%◌, ◌^◌, ◌<◌, ◌≡◌, Bool, cond, ◌&&◌, List, ◌++◌, ltb, leb, eqb, length, take, drop}
+use Rattle.std.specs.Prelude.{ℕ, zero, suc, ◌+◌, ◌*◌, ◌%◌, ◌^◌, ◌<◌, ◌≡◌, Bool, cond, ◌&&◌, List, ltb, leb, eqb, length, take, drop}
 use Rattle.codec.specs.Refusal.{entry_differs, record_malformed, height_unexpected}
 use Rattle.voting.specs.declared.settings.VotingConfig.{VotingConfig}
 use Rattle.voting.specs.declared.table.Table.{Table}
@@ -12,9 +12,7 @@ use Rattle.extension.specs.declared.boundary.Computed.{Computed}
 use Rattle.extension.specs.declared.parameters.Matched.{Matched}
 use Rattle.extension.specs.declared.parameters.ParameterMap.{ParameterMap}
 use Rattle.extension.specs.Section.{part}
-use Rattle.extension.specs.declared.body.Trailing.{Trailing}
-use Rattle.extension.specs.declared.body.Trailing.TheVariants.{Ignored, Refused as TrailingRefused}
-use Rattle.extension.specs.Body.{extension_as, check_body_as, proposed_update}
+use Rattle.extension.specs.Body.{check_body, proposed_update}
 use Rattle.extension.specs.Parameters.{parameters_of, check_parameters, Stands, LeastDiffering}
 use Rattle.extension.specs.Boundary.{computed_of}
 use Rattle.archive.specs.declared.record.RecordPlace.{RecordPlace}
@@ -69,17 +67,13 @@ abbrev pub boundary_on : Replay → ℕ → List ℕ → List ℕ → Computed
 boundary_on s height body votes =
     computed_of s.settings height s.table (entries s.tally) (boundary_votes votes) (proposed_update body)
 
--- a replay takes the old reading of a body: bytes after the last field are ignored
-abbrev pub replay_reading : Trailing
-replay_reading = Ignored
-
 -- the tests in order
 unfoldable pub on_parts : Replay → ℕ → List ℕ → List ℕ → Replayed
 on_parts s height body votes =
     gate s (height_refusal s height)
     (gate s (check_headers votes)
     (gate s (check_fork_votes s.settings s.table height (take 3 votes))
-    (gate s (check_body_as replay_reading body).refusal
+    (gate s (check_body body).refusal
     (after_boundary s height body votes (boundary_on s height body votes)))))
 
 -- the body of a record, and its vote bytes
@@ -152,21 +146,3 @@ abbrev pub LeastOfRecord : Replay → List ℕ → Replayed → Type 0
 LeastOfRecord s xs r =
     (verdict_number r.verdict ≡ entry_differs → OfRecord s xs (λ t m. LeastDiffering t m (verdict_id r.verdict)))
     × (verdict_number r.verdict ≡ 0 → OfRecord s xs (λ t m. (id : ℕ) → Stands t m id))
-
--- two records with one height and the same votes: the body of the second is read to its end, and that of the first has bytes behind it
-pub record Longer (size : ℕ) (xs ys : List ℕ) : Type 0 where
-  pub place : RecordPlace
-  pub whole : record_at xs size ≡ Whole place
-  pub ends : place.end ≡ length xs
-  pub other : RecordPlace
-  pub other-whole : record_at ys size ≡ Whole other
-  pub other-ends : other.end ≡ length ys
-  pub same-height : other.height ≡ place.height
-  pub same-votes : vote_bytes ys other ≡ vote_bytes xs place
-  pub read : (extension_as TrailingRefused (body_bytes ys other)).refusal ≡ 0
-  pub trailing : List ℕ
-  pub longer : body_bytes xs place ≡ body_bytes ys other ++ trailing
-
--- bytes after the last field of a body decide nothing
-abbrev pub TrailingIgnored : Replay → List ℕ → Replayed → Type 0
-TrailingIgnored s xs r = (ys : List ℕ) → Longer (votes_size s.settings) xs ys → r ≡ replay_of s ys

@@ -5,7 +5,7 @@ ghost use Rattle.voting.specs.Tally.{no_tally};
 ghost use Rattle.rounds.specs.Epochs.{boundary_votes};
 ghost use Rattle.walk.specs.Walk.{match_found};
 ghost use Rattle.archive.specs.ForkVotes.{check_fork_votes};
-ghost use Rattle.archive.specs.Replay.{refuses, gate, onward, after_match, height_refusal, early_refusal, on_parts, replay_of, Exhausted, LeastOfRecord, TrailingIgnored, verdict_number, verdict_id, may_open, open_of};
+ghost use Rattle.archive.specs.Replay.{refuses, gate, onward, after_match, height_refusal, early_refusal, on_parts, replay_of, Exhausted, LeastOfRecord, verdict_number, verdict_id, may_open, open_of};
 ghost use Rattle.archive.specs.Rounds.{RoundsKept};
 ghost use Rattle.archive.specs.Steps.{StepsKept};
 ghost use Rattle.archive.specs.Mainnet.{MainnetSteps};
@@ -13,7 +13,6 @@ ghost use Rattle.archive.specs.Mainnet.{MainnetSteps};
 use crate::record::RecordAt;
 use crate::{fork_votes, record};
 use codec::refusal;
-use extension::body::Trailing;
 use extension::boundary;
 use extension::boundary::Computed;
 use extension::parameters::Matched;
@@ -81,7 +80,6 @@ impl Replay {
         ensures value { result ≡ replay_of self rec.now }
         ensures exhausted { Exhausted self rec.now result }
         ensures least { LeastOfRecord self rec.now result }
-        ensures trailing { TrailingIgnored self rec.now result }
     {
         let g = self.settings;
         match record::read_record(rec, 3 * (g.voting_length as usize)) {
@@ -162,7 +160,7 @@ fn on_parts(s: Replay, height: u32, body: &[u8], votes: &[u8]) -> Replayed
     if e != 0 {
         return refused(s, e);
     }
-    let w = walk::walk_body(body, Trailing::Ignored);
+    let w = walk::walk_body(body);
     let x = w.parsed;
     let n = x.refusal;
     if n != 0 {

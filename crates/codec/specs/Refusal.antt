@@ -51,9 +51,6 @@ entry_differs = 15
 abbrev pub block_version_differs : ℕ
 block_version_differs = 16
 
-abbrev pub trailing_bytes : ℕ
-trailing_bytes = 31
-
 -- the supplier of tables and settings
 abbrev pub voting_length_zero : ℕ
 voting_length_zero = 17
@@ -97,4 +94,4 @@ refusals =
     too_many_votes ∷ repeated_vote ∷ contradictory_vote ∷ fork_vote_barred ∷ unknown_parameter ∷ absent_parameter ∷ entry_differs ∷ block_version_differs ∷
     voting_length_zero ∷ setting_large ∷ votes_collected_absent ∷ block_version_absent ∷
     output_short ∷ input_long ∷ status_rule_low ∷ written_value_long ∷
-    record_malformed ∷ height_unexpected ∷ trailing_bytes ∷ window_length_outside ∷ []
+    record_malformed ∷ height_unexpected ∷ window_length_outside ∷ []

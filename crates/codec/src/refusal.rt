@@ -35,8 +35,6 @@ pub const ENTRY_DIFFERS: u8 = 15;
 
 pub const BLOCK_VERSION_DIFFERS: u8 = 16;
 
-pub const TRAILING_BYTES: u8 = 31;
-
 // The supplier of tables and settings.
 pub const VOTING_LENGTH_ZERO: u8 = 17;
 
@@ -63,7 +61,7 @@ pub const RECORD_MALFORMED: u8 = 25;
 pub const HEIGHT_UNEXPECTED: u8 = 26;
 
 // All of them, in order.
-pub fn refusals() -> [u8; 28]
+pub fn refusals() -> [u8; 27]
     ensures { result ≡ refusals }
 {
     [
@@ -93,7 +91,6 @@ pub fn refusals() -> [u8; 28]
         WRITTEN_VALUE_LONG,
         RECORD_MALFORMED,
         HEIGHT_UNEXPECTED,
-        TRAILING_BYTES,
         WINDOW_LENGTH_OUTSIDE,
     ]
 }

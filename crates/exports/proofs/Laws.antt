@@ -17,10 +17,7 @@ use Rattle.codec.proofs.Laws.Output.{done, writing-stop, writing-go}
 use Rattle.wire.specs.Numbers.{votes_at}
 use Rattle.wire.specs.Put.{Written}
 use Rattle.exports.specs.Reply.{Reply, reply, answered, numbered, sized, placed, answer_of, number_of, size_of, place_of, minus}
-use Rattle.extension.specs.declared.body.Trailing.{Trailing}
-use Rattle.extension.specs.declared.body.Trailing.TheVariants.{Ignored}
-use Rattle.extension.specs.Body.{extension_as}
-use Rattle.exports.specs.Calls.{network_of, trailing_of, next_after, next_bytes, walked, WalksAll}
+use Rattle.exports.specs.Calls.{network_of, next_after, next_bytes, walked, WalksAll}
 use Rattle.voting.specs.declared.settings.Network.TheVariants.{Testnet}
 use Rattle.legal.specs.declared.next.NextVotes.{NextVotes}
 use Rattle.legal.specs.declared.next.NextVotes.TheVariants.{Votes, Nothing}
@@ -120,11 +117,3 @@ minus-some (suc n) d f = let h : n < 2 ^ 64 = omega arith in rw (mod-eq_of_lt h)
 pub testnet-other : (n : ℕ) → (n ≡ 0 → ⊥) → Testnet ≡ network_of n
 testnet-other zero d = absurd (d refl)
 testnet-other (suc n) d = refl
-
-pub ignored-other : (n : ℕ) → (n ≡ 0 → ⊥) → Ignored ≡ trailing_of n
-ignored-other zero d = absurd (d refl)
-ignored-other (suc n) d = refl
-
--- a body by an equal choice
-pub chosen : (s : List ℕ) (t u : Trailing) → t ≡ u → extension_as t s ≡ extension_as u s
-chosen s t u e = ap (λ (x : Trailing). extension_as x s) e

@@ -13,8 +13,6 @@ use Rattle.voting.specs.declared.tally.Tallied.{Tallied}
 use Rattle.voting.specs.Settings.{mainnet, testnet}
 use Rattle.voting.specs.Order.{Consistent, SameRefusal}
 use Rattle.extension.specs.declared.section.Parsed.{Parsed}
-use Rattle.extension.specs.declared.body.Trailing.{Trailing}
-use Rattle.extension.specs.declared.body.Trailing.TheVariants.{Refused, Ignored}
 use Rattle.extension.specs.declared.body.FieldAt.{FieldAt}
 use Rattle.extension.specs.declared.body.FieldAt.TheVariants.{HasField, NoField}
 use Rattle.extension.specs.declared.parameters.Parameters.{Parameters}
@@ -47,11 +45,6 @@ use Rattle.exports.specs.Reply.{Reply, reply, minus, numbered, placed, with_id}
 abbrev pub network_of : ℕ → Network
 network_of zero = Mainnet
 network_of (suc n) = Testnet
-
--- the number of a choice: 0, bytes after the last field of a body are refused; any other, they are ignored
-abbrev pub trailing_of : ℕ → Trailing
-trailing_of zero = Refused
-trailing_of (suc n) = Ignored
 
 abbrev pub settings_of : Network → VotingConfig
 settings_of Mainnet = mainnet

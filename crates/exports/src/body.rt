@@ -1,41 +1,31 @@
 // Extension bodies.
 ghost use Rattle.std.specs.Prelude.{◌≡◌};
 ghost use Rattle.codec.specs.Output.{writes};
-ghost use Rattle.extension.specs.Body.{field_placed, extension_as, body_field, proposed_update, check_body_as};
+ghost use Rattle.extension.specs.Body.{extension_of, body_field, proposed_update, check_body};
 ghost use Rattle.extension.specs.Parameters.{parameters_of};
 ghost use Rattle.exports.specs.Reply.{reply, numbered, sized};
-ghost use Rattle.exports.specs.Calls.{trailing_of, parsed_into, field_into, parameters_into};
+ghost use Rattle.exports.specs.Calls.{parsed_into, field_into, parameters_into};
 
 use crate::answer;
-use extension::body::{FieldAt, Trailing};
+use extension::body::FieldAt;
 use extension::{body, parameters};
 use wire::{map, numbers, places};
 
-fn trailing_of(n: u8) -> Trailing
-    ensures { result ≡ trailing_of n }
-{
-    if n == 0 {
-        return Trailing::Refused;
-    }
-    Trailing::Ignored
-}
-
-// Whether a body is in form: 0, or 22, 1 to 6, 31. Bytes after the last field are refused if `trailing` is 0, else ignored.
+// Whether a body is in form: 0, or 22, 1 to 6.
 #[unsafe(no_mangle)]
-pub extern "C" fn ergo_check_body(bytes: &[u8], trailing: u8) -> u8
-    ensures { result ≡ (check_body_as (trailing_of trailing) bytes.now).refusal }
+pub extern "C" fn ergo_check_body(bytes: &[u8]) -> u8
+    ensures { result ≡ (check_body bytes.now).refusal }
 {
-    let x = body::check_body_as(bytes, trailing_of(trailing));
+    let x = body::check_body(bytes);
     x.refusal
 }
 
-// The section of a body's fields, into cells: 0, or 22, 1 to 5, 31, 21. The id is the body's first 32 bytes. Bytes after the last field are
-// refused if `trailing` is 0, else ignored.
+// The section of a body's fields, into cells: 0, or 22, 1 to 5, 21. The id is the body's first 32 bytes.
 #[unsafe(no_mangle)]
-pub extern "C" fn ergo_parse_extension_bytes(bytes: &[u8], trailing: u8, out: &mut [u8]) -> u8
-    ensures { reply result out.new ≡ numbered (parsed_into (extension_as (trailing_of trailing) bytes.now) out.old) }
+pub extern "C" fn ergo_parse_extension_bytes(bytes: &[u8], out: &mut [u8]) -> u8
+    ensures { reply result out.new ≡ numbered (parsed_into (extension_of bytes.now) out.old) }
 {
-    let x = body::parse_extension_bytes_as(bytes, trailing_of(trailing));
+    let x = body::parse_extension_bytes(bytes);
     let s = x.section;
     if x.refusal != 0 {
         return x.refusal;
@@ -46,7 +36,7 @@ pub extern "C" fn ergo_parse_extension_bytes(bytes: &[u8], trailing: u8, out: &m
 // The field at a position of a body, into cells: 0, or 22, 3, 4, 5, 21. The next one stands where its value ends.
 #[unsafe(no_mangle)]
 pub extern "C" fn ergo_field_at(bytes: &[u8], at: usize, out: &mut [u8]) -> u8
-    ensures { reply result out.new ≡ numbered (field_into (field_placed at (body_field bytes.now at)) out.old) }
+    ensures { reply result out.new ≡ numbered (field_into (body_field bytes.now at) out.old) }
 {
     match body::field_at(bytes, at) {
         FieldAt::HasField(f) => answer::number_of(places::write_field(f, out)),

@@ -1,7 +1,7 @@
 // Settings updates.
 ghost use Rattle.std.specs.Prelude.{◌≡◌};
 ghost use Rattle.extension.specs.Mandatory.{mandatory};
-ghost use Rattle.extension.specs.Update.{update_of, rule_placed, status_placed, update_rule, update_status};
+ghost use Rattle.extension.specs.Update.{update_of, update_rule, update_status};
 ghost use Rattle.exports.specs.Reply.{reply, numbered};
 ghost use Rattle.exports.specs.Calls.{flag, update_into, rule_into, status_into};
 
@@ -26,7 +26,7 @@ pub extern "C" fn ergo_parse_validation_settings_update(bytes: &[u8], out: &mut 
 // The rule at a position of an update, into cells: 0, or 22, 7, 21.
 #[unsafe(no_mangle)]
 pub extern "C" fn ergo_rule_at(bytes: &[u8], at: usize, out: &mut [u8]) -> u8
-    ensures { reply result out.new ≡ numbered (rule_into (rule_placed (update_rule bytes.now at)) out.old) }
+    ensures { reply result out.new ≡ numbered (rule_into (update_rule bytes.now at) out.old) }
 {
     match update::rule_at(bytes, at) {
         RuleAt::HasRule(x) => answer::number_of(places::write_rule(x, out)),
@@ -37,7 +37,7 @@ pub extern "C" fn ergo_rule_at(bytes: &[u8], at: usize, out: &mut [u8]) -> u8
 // The status at a position of an update, into cells: 0, or 22, 7, 21. The next one stands where its raw bytes end.
 #[unsafe(no_mangle)]
 pub extern "C" fn ergo_status_at(bytes: &[u8], at: usize, out: &mut [u8]) -> u8
-    ensures { reply result out.new ≡ numbered (status_into (status_placed (update_status bytes.now at)) out.old) }
+    ensures { reply result out.new ≡ numbered (status_into (update_status bytes.now at) out.old) }
 {
     match update::status_at(bytes, at) {
         StatusAt::HasStatus(x) => answer::number_of(places::write_status(x, out)),

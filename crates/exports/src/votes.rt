@@ -3,7 +3,7 @@ ghost use Rattle.std.specs.Prelude.{◌≡◌};
 ghost use Rattle.codec.specs.Output.{writes};
 ghost use Rattle.voting.specs.Header.{check_header_votes};
 ghost use Rattle.voting.specs.Tally.{tally_votes_seeded};
-ghost use Rattle.voting.specs.ForkCheck.{check_fork_vote};
+ghost use Rattle.voting.specs.ForkCheck.{check_fork_vote, fork_refusal};
 ghost use Rattle.headers.specs.Headers.{check_headers};
 ghost use Rattle.wire.specs.Numbers.{votes_at};
 ghost use Rattle.wire.specs.Values.{table_at, settings_at};
@@ -72,7 +72,7 @@ pub extern "C" fn ergo_check_fork_vote(
     votes: &[u8],
     table: &[u8],
 ) -> u8
-    ensures { result ≡ check_fork_vote (settings_at settings.now 0) height (votes_at votes.now 0) (table_at table.now 0) }
+    ensures { result ≡ fork_refusal (check_fork_vote (settings_at settings.now 0) height (votes_at votes.now 0) (table_at table.now 0)) }
 {
     let config = values::settings_of(settings);
     let three = numbers::votes_of(votes);

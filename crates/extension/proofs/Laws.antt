@@ -9,7 +9,6 @@ pub mod Boundary
 pub mod Order
 pub mod Pack
 pub mod PackTrip
-pub mod Trailing
 pub mod Encode
 pub mod EncodeTrip
 pub mod Refusals

@@ -1,18 +1,16 @@
 -- The extension body: a 32-byte id, a count, and fields of a key of two bytes, a length byte and a value.
 -- docs/RULES.md, "Extension body and match".
 -- Assumes nothing.
-use Rattle.std.specs.Prelude.{ℕ, ◌+◌, ◌<◌, ◌≡◌, Bool, not, cond, ◌&&◌, List, [], ◌∷◌, ltb, eqb, length, get_or, take}
-use Rattle.codec.specs.Refusal.{body_short, count_unreadable, field_header_cut, value_long, value_cut, parameter_size, input_long, trailing_bytes}
+use Rattle.std.specs.Prelude.{ℕ, ◌+◌, Bool, not, cond, ◌&&◌, List, [], ◌∷◌, ltb, eqb, length, get_or, take}
+use Rattle.codec.specs.Refusal.{body_short, count_unreadable, field_header_cut, value_long, value_cut, parameter_size, input_long}
 use Rattle.codec.specs.Vlq.{vlq_at}
 use Rattle.codec.specs.declared.vlq.Read.{Read}
 use Rattle.codec.specs.declared.vlq.Read.TheVariants.{Value, Unreadable}
 use Rattle.voting.specs.Common.{gate}
 use Rattle.extension.specs.declared.section.Parsed.{Parsed}
-use Rattle.extension.specs.declared.body.Trailing.{Trailing}
-use Rattle.extension.specs.declared.body.Trailing.TheVariants.{Refused, Ignored}
 use Rattle.extension.specs.declared.body.FieldAt.{FieldAt}
 use Rattle.extension.specs.declared.body.FieldAt.TheVariants.{HasField, NoField}
-use Rattle.extension.specs.Section.{Reading, got, bad, bytes_in, listing, closed, section_items, refused_section, part, any}
+use Rattle.extension.specs.Section.{Reading, got, bad, listing, closed, section_items, refused_section, part, any}
 
 -- the key's two bytes, and the value
 pub record Field : Type 0 where
@@ -20,32 +18,28 @@ pub record Field : Type 0 where
   pub key1 : ℕ
   pub value : List ℕ
 
--- the field at a position, and the position after it; 3, 4 or 5 where there is none
-unfoldable pub read_field : List ℕ → ℕ → Reading Field
-read_field s at =
-    cond (ltb (length s) (at + 3)) (bad field_header_cut)
-    (cond (ltb 64 (get_or s (at + 2) 0)) (bad value_long)
-    (cond (ltb (length s) (at + 3 + get_or s (at + 2) 0)) (bad value_cut)
-    (got (record { key0 = get_or s at 0; key1 = get_or s (at + 1) 0; value = part s (at + 3) (at + 3 + get_or s (at + 2) 0) }) (at + 3 + get_or s (at + 2) 0))))
-
--- the answer that says what was read at a position, by where the value begins and ends; and what an answer says
-unfoldable pub field_placed : ℕ → Reading Field → FieldAt
-field_placed at (got f next) = HasField (record { key0 = f.key0; key1 = f.key1; start = at + 3; end = next })
-field_placed at (bad e) = NoField e
+-- the field at a position: its key, and where its value begins and ends; 3, 4 or 5 where there is none
+unfoldable pub field_at : List ℕ → ℕ → FieldAt
+field_at s at =
+    cond (ltb (length s) (at + 3)) (NoField field_header_cut)
+    (cond (ltb 64 (get_or s (at + 2) 0)) (NoField value_long)
+    (cond (ltb (length s) (at + 3 + get_or s (at + 2) 0)) (NoField value_cut)
+    (HasField
+    (record { key0 = get_or s at 0; key1 = get_or s (at + 1) 0; start = at + 3; end = at + 3 + get_or s (at + 2) 0 }))))
 
 unfoldable pub field_reading : List ℕ → FieldAt → Reading Field
 field_reading s (HasField f) = got (record { key0 = f.key0; key1 = f.key1; value = part s f.start f.end }) f.end
 field_reading s (NoField e) = bad e
 
-unfoldable pub field_at : List ℕ → ℕ → FieldAt
-field_at s at = field_placed at (read_field s at)
+unfoldable pub read_field : List ℕ → ℕ → Reading Field
+read_field s at = field_reading s (field_at s at)
 
 -- as many fields as were counted, after the count
 unfoldable pub fields_from : List ℕ → Read → Parsed
 fields_from body Unreadable = refused_section count_unreadable
 fields_from body (Value m) = closed m.value m.next (listing (read_field body) m.value m.next)
 
--- a body's fields: how many, where they begin and end. Bytes after the last are not judged here
+-- a body's fields: how many, where they begin and end; bytes after the last are ignored
 unfoldable pub extension_of : List ℕ → Parsed
 extension_of body =
     cond (ltb 65536 (length body)) (refused_section input_long)
@@ -55,29 +49,21 @@ extension_of body =
 unfoldable pub fields_of : List ℕ → List Field
 fields_of body = section_items (read_field body) (extension_of body).section
 
--- 31 where bytes are left over after the last field, unless the caller ignores them
-unfoldable pub leftover_refusal : Trailing → ℕ → ℕ → ℕ
-leftover_refusal Refused end size = cond (ltb end size) trailing_bytes 0
-leftover_refusal Ignored end size = 0
-
-unfoldable pub judged_by : Trailing → ℕ → Parsed → Parsed
-judged_by trailing size x = gate refused_section x.refusal (gate refused_section (leftover_refusal trailing x.section.end size) x)
-
--- 22, 1 to 5 over all fields, and then 31
-unfoldable pub extension_as : Trailing → List ℕ → Parsed
-extension_as trailing body = judged_by trailing (length body) (extension_of body)
-
 -- the id of the header that a body belongs to; nothing where the body is refused
 unfoldable pub header_id : List ℕ → List ℕ
 header_id body = cond (eqb (extension_of body).refusal 0) (take 32 body) []
 
 -- what a reader meets at a position of a body
-unfoldable pub body_field : List ℕ → ℕ → Reading Field
-body_field body at = cond (ltb 65536 (length body)) (bad input_long) (read_field body at)
+unfoldable pub body_field : List ℕ → ℕ → FieldAt
+body_field body at = cond (ltb 65536 (length body)) (NoField input_long) (field_at body at)
 
 -- the value of the field there; nothing where there is none
+unfoldable pub value_of : List ℕ → FieldAt → List ℕ
+value_of body (HasField f) = part body f.start f.end
+value_of body (NoField e) = []
+
 unfoldable pub field_value : List ℕ → ℕ → List ℕ
-field_value body at = bytes_in (λ (f : Field). f.value) (body_field body at)
+field_value body at = value_of body (body_field body at)
 
 -- key 0, 124 holds the proposed settings update; other keys that begin with 0 hold parameters
 unfoldable pub update_key : ℕ → ℕ → Bool
@@ -105,16 +91,9 @@ wrong_parameter f = wrong_size f.key0 f.key1 (length f.value)
 unfoldable pub sizes_refusal : List Field → ℕ
 sizes_refusal fs = cond (any wrong_parameter fs) parameter_size 0
 
--- 22, 1 to 5 over all fields, then 6, and then 31
-unfoldable pub check_body_as : Trailing → List ℕ → Parsed
-check_body_as trailing body =
+-- 22, 1 to 5 over all fields, and then 6
+unfoldable pub check_body : List ℕ → Parsed
+check_body body =
     gate refused_section (extension_of body).refusal
     (gate refused_section (sizes_refusal (fields_of body))
-    (gate refused_section (leftover_refusal trailing (extension_of body).section.end (length body))
-    (extension_of body)))
-
--- two readings of a body of so many bytes, the strict one and the old one: they differ exactly where the old one passes and bytes are left
--- over, and there the strict one is refused by 31
-pub record Readings (strict old : Parsed) (size : ℕ) : Type 0 where
-  pub left_over : old.refusal ≡ 0 → old.section.end < size → strict ≡ refused_section trailing_bytes
-  pub else_same : (old.refusal ≡ 0 → old.section.end < size → ⊥) → strict ≡ old
+    (extension_of body))

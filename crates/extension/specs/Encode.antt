@@ -1,27 +1,30 @@
 -- Settings updates as they are written, and an update read and written again. docs/RULES.md, "Settings update" and "Writers and rest". What
 -- the writers answer stands in crates/writers/specs/Encode.antt.
 -- Assumes nothing.
-use Rattle.std.specs.Prelude.{ℕ, zero, suc, ◌+◌, ◌<◌, Bool, false, cond, ◌&&◌, ◌||◌, ◌≡◌, ltb, eqb, ℤ, pos, length, take, drop}
-use mathlib.Core.List.{List, [], ◌∷◌, ◌++◌, flat_map}
+use Rattle.std.specs.Prelude.{ℕ, zero, suc, ◌+◌, ◌<◌, Bool, false, cond, ◌&&◌, ◌||◌, ◌≡◌, List, [], ◌∷◌, ◌++◌, ltb, eqb, ℤ, pos, length, take, drop}
 use Rattle.std.specs.Int.Signed.{lt_z}
 use Rattle.codec.specs.Refusal.{update_unreadable, input_long, status_rule_low}
 use Rattle.codec.specs.Rule.{first_rule, offset_of}
 use Rattle.codec.specs.Vlq.{vlq_at, vlq_bytes}
 use Rattle.codec.specs.declared.vlq.Read.{Read}
 use Rattle.codec.specs.declared.vlq.Read.TheVariants.{Value, Unreadable}
+use Rattle.extension.specs.declared.update.StatusAt.{StatusAt}
+use Rattle.extension.specs.declared.update.StatusAt.TheVariants.{HasStatus, NoStatus}
 use Rattle.extension.specs.declared.update.Update.{Update}
-use Rattle.extension.specs.Section.{Reading, got, bad, part, any}
-use Rattle.extension.specs.Update.{Status, read_status, update_of, rules_in, statuses_in}
+use Rattle.extension.specs.Section.{part, any}
+use Rattle.extension.specs.Update.{Status, status_at, update_of, rules_in, statuses_in}
 
 unfoldable pub rules_bytes : List ℕ → List ℕ
-rules_bytes rules = flat_map vlq_bytes rules
+rules_bytes [] = []
+rules_bytes (r ∷ rs) = vlq_bytes r ++ rules_bytes rs
 
 -- offset, size, code, raw bytes
 unfoldable pub status_bytes : Status → List ℕ
 status_bytes x = vlq_bytes (offset_of x.rule) ++ vlq_bytes (length x.raw) ++ x.code ∷ x.raw
 
 unfoldable pub statuses_bytes : List Status → List ℕ
-statuses_bytes statuses = flat_map status_bytes statuses
+statuses_bytes [] = []
+statuses_bytes (x ∷ xs) = status_bytes x ++ statuses_bytes xs
 
 unfoldable pub encoded : List ℕ → List Status → List ℕ
 encoded rules statuses = vlq_bytes (length rules) ++ rules_bytes rules ++ vlq_bytes (length statuses) ++ statuses_bytes statuses
@@ -70,7 +73,8 @@ sizes_of [] = []
 sizes_of (x ∷ xs) = length x.raw ∷ sizes_of xs
 
 unfoldable pub all_raw : List Status → List ℕ
-all_raw statuses = flat_map (λ (x : Status). x.raw) statuses
+all_raw [] = []
+all_raw (x ∷ xs) = x.raw ++ all_raw xs
 
 -- a number that was read at a position stood there in shortest form
 abbrev pub Short : List ℕ → ℕ → Read → Type 0
@@ -81,9 +85,9 @@ abbrev pub next_of : Read → ℕ
 next_of Unreadable = 0
 next_of (Value m) = m.next
 
-abbrev pub end_of : {A : Type 0} → Reading A → ℕ
-end_of (got a next) = next
-end_of (bad e) = 0
+abbrev pub end_of : StatusAt → ℕ
+end_of (HasStatus x) = x.end
+end_of (NoStatus e) = 0
 
 abbrev pub ShortRules : ℕ → List ℕ → ℕ → Type 0
 ShortRules zero s at = Unit {0}
@@ -93,7 +97,7 @@ ShortRules (suc n) s at = Short s at (vlq_at 16 s at) × ShortRules n s (next_of
 abbrev pub ShortStatuses : ℕ → List ℕ → ℕ → Type 0
 ShortStatuses zero s at = Unit {0}
 ShortStatuses (suc n) s at =
-    Short s at (vlq_at 16 s at) × Short s (next_of (vlq_at 16 s at)) (vlq_at 16 s (next_of (vlq_at 16 s at))) × ShortStatuses n s (end_of (read_status s at))
+    Short s at (vlq_at 16 s at) × Short s (next_of (vlq_at 16 s at)) (vlq_at 16 s (next_of (vlq_at 16 s at))) × ShortStatuses n s (end_of (status_at s at))
 
 -- an update with bytes, every number in shortest form and every count under 2^31, no byte after the last status, and no status rule id
 -- under 1,000

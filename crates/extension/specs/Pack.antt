@@ -5,9 +5,8 @@ use Rattle.std.specs.Prelude.{ℕ, zero, suc, ◌+◌, Bool, cond, ◌≡◌, Li
 use Rattle.codec.specs.Refusal.{field_header_cut, value_cut, input_long, written_value_long}
 use Rattle.codec.specs.Vlq.{vlq_bytes}
 use Rattle.extension.specs.declared.section.Section.{Section}
-use Rattle.extension.specs.declared.body.Trailing.TheVariants.{Refused}
 use Rattle.extension.specs.Section.{Reading, got, bad, Listing, done, after, items, refusal_of, part, any}
-use Rattle.extension.specs.Body.{Field, extension_as, header_id}
+use Rattle.extension.specs.Body.{Field, extension_of, header_id}
 
 -- a field of a list that is to be written: the key, a length byte, and a value of any such length
 unfoldable pub wire_at : List ℕ → ℕ → Reading Field
@@ -37,11 +36,11 @@ pack_refusal l =
 unfoldable pub packed : List ℕ → List ℕ → List ℕ
 packed id fields = id ++ vlq_bytes (length (items (wire_fields fields))) ++ fields
 
--- a body that is read with no byte after the last field, its count in shortest form, is what the writer gives for its id and its fields
+-- a body that is read, with its count in shortest form and no byte after the last field, is what the writer gives for its id and its fields
 pub record BodyBack (body : List ℕ) (x : Section) : Type 0 where
   pub accepted : pack_refusal (wire_fields (part body x.begin x.end)) ≡ 0
   pub same_bytes : packed (header_id body) (part body x.begin x.end) ≡ body
 
 abbrev pub BodyAgain : List ℕ → Section → Type 0
 BodyAgain body x =
-    (extension_as Refused body).refusal ≡ 0 → part body 32 x.begin ≡ vlq_bytes x.count → BodyBack body x
+    (extension_of body).refusal ≡ 0 → part body 32 x.begin ≡ vlq_bytes x.count → x.end ≡ length body → BodyBack body x

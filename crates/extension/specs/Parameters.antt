@@ -10,12 +10,11 @@ use Rattle.voting.specs.declared.table.Value.{Value}
 use Rattle.voting.specs.declared.table.Value.TheVariants.{Absent, Number}
 use Rattle.voting.specs.declared.table.Table.{Table}
 use Rattle.extension.specs.declared.section.Parsed.{Parsed}
-use Rattle.extension.specs.declared.body.Trailing.TheVariants.{Ignored}
 use Rattle.extension.specs.declared.parameters.ParameterMap.{ParameterMap}
 use Rattle.extension.specs.declared.parameters.Parameters.{Parameters}
 use Rattle.extension.specs.declared.parameters.Matched.{Matched}
 use Rattle.extension.specs.Section.{section_items}
-use Rattle.extension.specs.Body.{Field, parameter_key, read_field, check_body_as}
+use Rattle.extension.specs.Body.{Field, parameter_key, read_field, check_body}
 
 -- one entry for each id byte, all absent
 unfoldable pub no_parameters : ParameterMap
@@ -40,12 +39,12 @@ unfoldable pub parameters_in : List Field → ParameterMap → ParameterMap
 parameters_in [] m = m
 parameters_in (f ∷ fs) m = parameters_in fs (taken f m)
 
--- of a body that is checked, bytes after its last field being ignored; a refused one has none
+-- of a body that is checked; a refused one has none
 unfoldable pub read_parameters : List ℕ → Parsed → Parameters
 read_parameters body x = record { refusal = x.refusal; map = parameters_in (section_items (read_field body) x.section) no_parameters }
 
 unfoldable pub parameters_of : List ℕ → Parameters
-parameters_of body = read_parameters body (check_body_as Ignored body)
+parameters_of body = read_parameters body (check_body body)
 
 -- a computed entry stands, equal, among the parameters; an absent one asks nothing
 unfoldable pub agrees : Value → Value → Bool

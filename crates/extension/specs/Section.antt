@@ -19,11 +19,6 @@ unfoldable pub after : {A : Type 0} → Reading A → (ℕ → Listing A) → Li
 after (got a next) rest = item a (rest next)
 after (bad e) rest = stop e
 
--- the bytes that an item has; nothing where there is none
-unfoldable pub bytes_in : {A : Type 0} → (A → List ℕ) → Reading A → List ℕ
-bytes_in bytes (got a next) = bytes a
-bytes_in bytes (bad e) = []
-
 -- n items from a position on
 unfoldable pub listing : {A : Type 0} → (ℕ → Reading A) → ℕ → ℕ → Listing A
 listing read zero at = done at

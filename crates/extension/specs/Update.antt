@@ -1,6 +1,6 @@
 -- A settings update: rules to disable, and statuses of rules. docs/RULES.md, "Settings update".
 -- Assumes nothing.
-use Rattle.std.specs.Prelude.{ℕ, ◌+◌, ◌-◌, ◌^◌, Bool, cond, List, ltb, eqb, ℤ, length, get_or}
+use Rattle.std.specs.Prelude.{ℕ, ◌+◌, ◌^◌, Bool, cond, List, [], ltb, eqb, ℤ, length, get_or}
 use Rattle.codec.specs.Refusal.{update_unreadable, mandatory_disabled, input_long}
 use Rattle.codec.specs.Vlq.{vlq_at}
 use Rattle.codec.specs.Rule.{rule_of}
@@ -15,25 +15,23 @@ use Rattle.extension.specs.declared.update.StatusAt.TheVariants.{HasStatus, NoSt
 use Rattle.extension.specs.declared.update.Update.{Update}
 use Rattle.extension.specs.declared.update.ParsedUpdate.{ParsedUpdate}
 use Rattle.extension.specs.declared.update.Proposed.{Proposed}
-use Rattle.extension.specs.Section.{Reading, got, bad, bytes_in, listing, closed, section_items, no_section, refused_section, part, any}
+use Rattle.extension.specs.Section.{Reading, got, bad, listing, closed, section_items, no_section, refused_section, part, any}
 use Rattle.extension.specs.Mandatory.{mandatory_rule}
 
 -- the rule at a position: a number of 16 bits
-unfoldable pub rule_from : Read → Reading ℕ
-rule_from Unreadable = bad update_unreadable
-rule_from (Value m) = got m.value m.next
+unfoldable pub placed_rule : Read → RuleAt
+placed_rule Unreadable = NoRule update_unreadable
+placed_rule (Value m) = HasRule (record { id = m.value; next = m.next })
 
-unfoldable pub read_rule : List ℕ → ℕ → Reading ℕ
-read_rule s at = rule_from (vlq_at 16 s at)
-
--- the answer that says what was read, and what an answer says
-unfoldable pub rule_placed : Reading ℕ → RuleAt
-rule_placed (got id next) = HasRule (record { id = id; next = next })
-rule_placed (bad e) = NoRule e
+unfoldable pub rule_at : List ℕ → ℕ → RuleAt
+rule_at s at = placed_rule (vlq_at 16 s at)
 
 unfoldable pub rule_reading : RuleAt → Reading ℕ
 rule_reading (HasRule x) = got x.id x.next
 rule_reading (NoRule e) = bad e
+
+unfoldable pub read_rule : List ℕ → ℕ → Reading ℕ
+read_rule s at = rule_reading (rule_at s at)
 
 -- the rule's id, the code, and the raw bytes
 pub record Status : Type 0 where
@@ -42,38 +40,46 @@ pub record Status : Type 0 where
   pub raw : List ℕ
 
 -- the status at a position: an offset, a size, a code byte, and that many raw bytes
-unfoldable pub sized_from : List ℕ → ℤ → Read → Reading Status
-sized_from s rule Unreadable = bad update_unreadable
-sized_from s rule (Value m) =
-    cond (ltb (length s) (m.next + 1 + m.value)) (bad update_unreadable)
-    (got (record { rule = rule; code = get_or s m.next 0; raw = part s (m.next + 1) (m.next + 1 + m.value) }) (m.next + 1 + m.value))
+unfoldable pub placed_status : List ℕ → ℤ → Read → StatusAt
+placed_status s rule Unreadable = NoStatus update_unreadable
+placed_status s rule (Value m) =
+    cond (ltb (length s) (m.next + 1 + m.value)) (NoStatus update_unreadable)
+    (HasStatus
+    (record {
+      rule = record { 0 = rule };
+      code = get_or s m.next 0;
+      start = m.next + 1;
+      end = m.next + 1 + m.value;
+    }))
 
-unfoldable pub status_from : List ℕ → Read → Reading Status
-status_from s Unreadable = bad update_unreadable
-status_from s (Value m) = sized_from s (rule_of m.value) (vlq_at 16 s m.next)
+unfoldable pub offset_then : List ℕ → Read → StatusAt
+offset_then s Unreadable = NoStatus update_unreadable
+offset_then s (Value m) = placed_status s (rule_of m.value) (vlq_at 16 s m.next)
 
-unfoldable pub read_status : List ℕ → ℕ → Reading Status
-read_status s at = status_from s (vlq_at 16 s at)
-
--- the answer that says what was read, by where the raw bytes begin and end; and what an answer says
-unfoldable pub status_placed : Reading Status → StatusAt
-status_placed (got x next) = HasStatus (record { rule = record { 0 = x.rule }; code = x.code; start = next - length x.raw; end = next })
-status_placed (bad e) = NoStatus e
+unfoldable pub status_at : List ℕ → ℕ → StatusAt
+status_at s at = offset_then s (vlq_at 16 s at)
 
 unfoldable pub status_reading : List ℕ → StatusAt → Reading Status
 status_reading s (HasStatus x) = got (record { rule = x.rule.0; code = x.code; raw = part s x.start x.end }) x.end
 status_reading s (NoStatus e) = bad e
 
--- what a reader meets at a position of an update
-unfoldable pub update_rule : List ℕ → ℕ → Reading ℕ
-update_rule s at = cond (ltb 65536 (length s)) (bad input_long) (read_rule s at)
+unfoldable pub read_status : List ℕ → ℕ → Reading Status
+read_status s at = status_reading s (status_at s at)
 
-unfoldable pub update_status : List ℕ → ℕ → Reading Status
-update_status s at = cond (ltb 65536 (length s)) (bad input_long) (read_status s at)
+-- what a reader meets at a position of an update
+unfoldable pub update_rule : List ℕ → ℕ → RuleAt
+update_rule s at = cond (ltb 65536 (length s)) (NoRule input_long) (rule_at s at)
+
+unfoldable pub update_status : List ℕ → ℕ → StatusAt
+update_status s at = cond (ltb 65536 (length s)) (NoStatus input_long) (status_at s at)
 
 -- the raw bytes of the status there; nothing where there is none
+unfoldable pub raw_of : List ℕ → StatusAt → List ℕ
+raw_of s (HasStatus x) = part s x.start x.end
+raw_of s (NoStatus e) = []
+
 unfoldable pub status_raw : List ℕ → ℕ → List ℕ
-status_raw s at = bytes_in (λ (x : Status). x.raw) (update_status s at)
+status_raw s at = raw_of s (update_status s at)
 
 -- a count from 2^31 up reads as 0
 unfoldable pub count_in : ℕ → ℕ

@@ -2,7 +2,7 @@
 ghost use Rattle.std.specs.Prelude.{◌≡◌, length};
 ghost use Rattle.extension.specs.Section.{listing, closed, section_items, any, PartIs};
 ghost use Rattle.extension.specs.Pack.{BodyAgain};
-ghost use Rattle.extension.specs.Body.{read_field, field_placed, field_reading, field_at, extension_of, extension_as, judged_by, header_id, body_field, field_value, update_key, parameter_key, update_in, proposed_update, wrong_size, wrong_parameter, check_body_as, Readings};
+ghost use Rattle.extension.specs.Body.{field_at, read_field, extension_of, header_id, body_field, field_value, update_key, parameter_key, update_in, proposed_update, wrong_size, wrong_parameter, check_body};
 
 use crate::section;
 use crate::section::{Parsed, Section, Span};
@@ -34,32 +34,10 @@ pub enum FieldAt {
     NoField(u8),
 }
 
-// What becomes of bytes after the last field of a body.
-#[derive(Drop)]
-pub enum Trailing {
-    Refused,
-    Ignored,
-}
-
-// How many fields a body has, and where they begin and end. Bytes after the last field are refused.
+// How many fields a body has, and where they begin and end.
 pub fn parse_extension_bytes(body: &[u8]) -> Parsed
-    ensures value { result ≡ extension_as Trailing.Refused body.now }
+    ensures value { result ≡ extension_of body.now }
     ensures again { BodyAgain body.now result.section }
-    ensures readings { Readings result (extension_as Trailing.Ignored body.now) (length body.now) }
-{
-    parse_extension_bytes_as(body, Trailing::Refused)
-}
-
-// The same, by the caller's choice of what becomes of bytes after the last field.
-pub fn parse_extension_bytes_as(body: &[u8], trailing: Trailing) -> Parsed
-    ensures { result ≡ extension_as trailing body.now }
-{
-    judged(fields_of(body), body.len(), trailing)
-}
-
-// The fields of a body. Bytes after the last one are not judged.
-pub(crate) fn fields_of(body: &[u8]) -> Parsed
-    ensures { result ≡ extension_of body.now }
 {
     if INPUT_MOST < body.len() {
         return section::refused(refusal::INPUT_LONG);
@@ -73,31 +51,11 @@ pub(crate) fn fields_of(body: &[u8]) -> Parsed
     }
 }
 
-// For the layers above: fields that were read in so many bytes, or 31 where bytes are left over after the last one.
-pub fn judged(fields: Parsed, size: usize, trailing: Trailing) -> Parsed
-    ensures { result ≡ judged_by trailing size fields }
-{
-    let e = fields.refusal;
-    if e != 0 {
-        return section::refused(e);
-    }
-    let s = fields.section;
-    match trailing {
-        Trailing::Refused => {
-            if s.end < size {
-                return section::refused(refusal::TRAILING_BYTES);
-            }
-            fields
-        }
-        Trailing::Ignored => fields,
-    }
-}
-
 // The id of the header that a body belongs to, as the part of the body that holds it; the empty part where the body is refused.
 pub fn header_id(body: &[u8]) -> &[u8]
     ensures { result.now ≡ header_id body.now }
 {
-    let x = fields_of(body);
+    let x = parse_extension_bytes(body);
     let e = x.refusal;
     if e != 0 {
         return &body[..0];
@@ -107,8 +65,7 @@ pub fn header_id(body: &[u8]) -> &[u8]
 
 // What a reader meets at a position of a body.
 pub fn field_at(body: &[u8], at: usize) -> FieldAt
-    ensures value { result ≡ field_placed at (body_field body.now at) }
-    ensures told { field_reading body.now result ≡ body_field body.now at }
+    ensures { result ≡ body_field body.now at }
 {
     if INPUT_MOST < body.len() {
         return FieldAt::NoField(refusal::INPUT_LONG);
@@ -134,30 +91,22 @@ pub fn field_value(body: &[u8], at: usize) -> &[u8]
 pub fn extract_disabling_rules_from_kv(body: &[u8]) -> &[u8]
     ensures { result.now ≡ proposed_update body.now }
 {
-    let x = fields_of(body);
+    let x = parse_extension_bytes(body);
     let found = find_update(body, x.section);
     let start = found.start;
     let end = found.end;
     &body[start..end]
 }
 
-// The check of a body: its fields, then 6 where a parameter's value is not four bytes, then 31 where bytes are left over after the last field.
+// As parse_extension_bytes, and then 6 where a parameter's value is not four bytes.
 pub fn check_body(body: &[u8]) -> Parsed
-    ensures value { result ≡ check_body_as Trailing.Refused body.now }
-    ensures readings { Readings result (check_body_as Trailing.Ignored body.now) (length body.now) }
+    ensures { result ≡ check_body body.now }
 {
-    check_body_as(body, Trailing::Refused)
-}
-
-// The same, by the caller's choice of what becomes of bytes after the last field.
-pub fn check_body_as(body: &[u8], trailing: Trailing) -> Parsed
-    ensures { result ≡ check_body_as trailing body.now }
-{
-    let x = fields_of(body);
+    let x = parse_extension_bytes(body);
     if any_wrong_size(body, x.section) {
         return section::refused(refusal::PARAMETER_SIZE);
     }
-    judged(x, body.len(), trailing)
+    x
 }
 
 // The field at a position.

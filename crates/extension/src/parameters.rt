@@ -5,7 +5,7 @@ ghost use Rattle.extension.specs.Body.{read_field};
 ghost use Rattle.extension.specs.Parameters.{no_parameters, entry_of, store, number_in, taken, parameters_in, parameters_of, agrees, first_differing, table_ids, check_parameters, LeastCarried};
 
 use crate::body;
-use crate::body::{FieldAt, FieldPlace, Trailing};
+use crate::body::{FieldAt, FieldPlace};
 use crate::section::Section;
 use codec::{big_endian, refusal};
 use voting::table::{Slot, Table, Value};
@@ -51,11 +51,11 @@ impl ParameterMap {
     }
 }
 
-// The parameters of a body. Bytes after its last field are not judged.
+// The parameters of a body.
 pub fn parse_parameters_from_kv(body: &[u8]) -> Parameters
     ensures { result ≡ parameters_of body.now }
 {
-    let x = body::check_body_as(body, Trailing::Ignored);
+    let x = body::check_body(body);
     Parameters {
         refusal: x.refusal,
         map: parameters_in(body, x.section),

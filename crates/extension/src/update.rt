@@ -4,7 +4,7 @@ ghost use Rattle.codec.specs.Vlq.{vlq_at};
 ghost use Rattle.extension.specs.Section.{listing, closed, refused_section};
 ghost use Rattle.extension.specs.Rules.{RulesAre};
 ghost use Rattle.extension.specs.Encode.{UpdateAgain};
-ghost use Rattle.extension.specs.Update.{read_rule, rule_placed, rule_reading, sized_from, read_status, status_placed, status_reading, update_rule, update_status, status_raw, count_in, items_from, no_update, refused_update, with_statuses, with_rules, update_of, disables, proposed_of};
+ghost use Rattle.extension.specs.Update.{rule_at, read_rule, status_at, placed_status, read_status, update_rule, update_status, status_raw, count_in, items_from, no_update, refused_update, with_statuses, with_rules, update_of, disables, proposed_of};
 
 use crate::body::INPUT_MOST;
 use crate::section::{Parsed, Section};
@@ -102,8 +102,7 @@ pub fn parse_proposed(bytes: &[u8], rule: u16) -> Proposed
 
 // What a reader meets at a position of an update: a rule to disable.
 pub fn rule_at(bytes: &[u8], at: usize) -> RuleAt
-    ensures value { result ≡ rule_placed (update_rule bytes.now at) }
-    ensures told { rule_reading result ≡ update_rule bytes.now at }
+    ensures { result ≡ update_rule bytes.now at }
 {
     if INPUT_MOST < bytes.len() {
         return RuleAt::NoRule(refusal::INPUT_LONG);
@@ -113,8 +112,7 @@ pub fn rule_at(bytes: &[u8], at: usize) -> RuleAt
 
 // What a reader meets at a position of an update: a status.
 pub fn status_at(bytes: &[u8], at: usize) -> StatusAt
-    ensures value { result ≡ status_placed (update_status bytes.now at) }
-    ensures told { status_reading bytes.now result ≡ update_status bytes.now at }
+    ensures { result ≡ update_status bytes.now at }
 {
     if INPUT_MOST < bytes.len() {
         return StatusAt::NoStatus(refusal::INPUT_LONG);
@@ -161,7 +159,7 @@ fn refused(refusal: u8) -> ParsedUpdate
 
 // The rule at a position.
 fn read_rule(bytes: &[u8], at: usize) -> RuleAt
-    ensures { result ≡ rule_placed (read_rule bytes.now at) }
+    ensures { result ≡ rule_at bytes.now at }
 {
     match vlq::read_u16(bytes, at) {
         Read::Value(m) => RuleAt::HasRule(RulePlace {
@@ -174,7 +172,7 @@ fn read_rule(bytes: &[u8], at: usize) -> RuleAt
 
 // The status at a position: an offset, and what follows it.
 fn read_status(bytes: &[u8], at: usize) -> StatusAt
-    ensures { result ≡ status_placed (read_status bytes.now at) }
+    ensures { result ≡ status_at bytes.now at }
 {
     match vlq::read_u16(bytes, at) {
         Read::Value(m) => {
@@ -187,7 +185,7 @@ fn read_status(bytes: &[u8], at: usize) -> StatusAt
 
 // After the offset: a size, a code byte, and that many raw bytes.
 fn read_sized(bytes: &[u8], rule: RuleId, at: usize) -> StatusAt
-    ensures { result ≡ status_placed (sized_from bytes.now rule.0 (vlq_at 16 bytes.now at)) }
+    ensures { result ≡ placed_status bytes.now rule.0 (vlq_at 16 bytes.now at) }
 {
     match vlq::read_u16(bytes, at) {
         Read::Value(m) => {

@@ -1,7 +1,6 @@
 -- Every legal number in print, and the same in pieces. docs/RULES.md, "Every legal header".
 -- Assumes nothing.
-use Rattle.std.specs.Prelude.{ℕ, ◌-◌, ◌≤◌, ◌<◌, ◌≡◌, cond, ltb, leb, length}
-use mathlib.Core.List.{List, [], ◌∷◌, ◌++◌, flat_map}
+use Rattle.std.specs.Prelude.{ℕ, ◌-◌, ◌≤◌, ◌<◌, ◌≡◌, cond, List, [], ◌∷◌, ◌++◌, ltb, leb, length}
 use Rattle.codec.specs.Refusal.{output_short}
 use Rattle.codec.specs.Decimal.{digits, newline}
 use Rattle.legal.specs.declared.next.NextVotes.{NextVotes}
@@ -14,7 +13,8 @@ unfoldable pub line_of : ℕ → List ℕ
 line_of n = digits 10 n ++ newline
 
 unfoldable pub lines_of : List ℕ → List ℕ
-lines_of numbers = flat_map line_of numbers
+lines_of [] = []
+lines_of (n ∷ ns) = line_of n ++ lines_of ns
 
 -- the listing
 unfoldable pub listing : List ℕ

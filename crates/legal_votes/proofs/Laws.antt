@@ -2,7 +2,7 @@
 -- Assumes nothing.
 use mathlib.Core.Path.{◌≡◌, sym, ap, ◌∙◌}
 use mathlib.Core.Bool.{Bool, true, false, true≢false}
-use mathlib.Core.List.{List, [], ◌++◌, append_assoc, append-nil, flat_map}
+use mathlib.Core.List.{List, [], ◌++◌, append_assoc, append-nil}
 use Prim.Native.Nat.{ℕ, ◌-◌, ◌≤◌, ◌<◌}
 use native.Mathlib.Omega.{arith}
 use lib.ListN.{length, take}
@@ -67,7 +67,7 @@ module _ (at : NextVotes) (out : List ℕ) (f : Filled) (is-filled : f ≡ fill_
       handed-whole = handed ∙ ap (λ (b : Bool). sent b (wrote (unwritten to) (g.text ++ text_of at (length out)))) e
 
       pub prints-all : f.next ≡ Nothing → Prints to (record { output = o'; failed = false })
-      unfolding rest_of lines_of flat_map
+      unfolding rest_of lines_of
       prints-all n =
           let all : g.text ++ text_of at (length out) ≡ listing =
           sym (append-nil (g.text ++ text_of at (length out)))

@@ -1,17 +1,17 @@
-// A reader that holds a body and a position. Bytes after the last field are not judged. docs/RULES.md, "Extension body and match".
+// A reader that holds a body and a position. docs/RULES.md, "Extension body and match".
 ghost use Rattle.std.specs.Prelude.{◌≡◌, ◌≤◌, length};
 ghost use Rattle.extension.specs.declared.body.FieldAt.TheVariants.{HasField};
-ghost use Rattle.lent.specs.Reader.{cursor_of, after_field, refusal_at, next_of, next_refusal, value_at, Begins, Reads};
+ghost use Rattle.lent.specs.Reader.{cursor_of, after_field, next_of, next_refusal, value_at, Begins, Reads};
 
 use extension::body;
-use extension::body::{FieldAt, FieldPlace, Trailing};
+use extension::body::{FieldAt, FieldPlace};
 
-// The position of the next field, how many fields are left, and whether the body is refused.
+// The position of the next field, and how many fields are left; or the number by which the body is refused.
 #[derive(Drop)]
 pub struct Cursor {
     pub at: usize,
     pub left: u32,
-    pub refused: bool,
+    pub refusal: u8,
 }
 
 // Where a field stands, and the cursor after it.
@@ -88,17 +88,17 @@ pub fn read_at(body: &[u8], cursor: Cursor) -> NextField
     next(moved(begin(body), cursor))
 }
 
-// Where the fields of a body begin, how many there are, and whether the body is refused.
+// Where the fields of a body begin, and how many there are; or the number by which it is refused.
 pub fn cursor_of(body: &[u8]) -> Cursor
     ensures value { result ≡ cursor_of body.now }
     ensures begins { Begins body.now result }
 {
-    let x = body::parse_extension_bytes_as(body, Trailing::Ignored);
+    let x = body::parse_extension_bytes(body);
     let fields = x.section;
     Cursor {
         at: fields.begin,
         left: fields.count,
-        refused: x.refusal != 0,
+        refusal: x.refusal,
     }
 }
 
@@ -107,9 +107,8 @@ pub fn next_at(body: &[u8], cursor: Cursor) -> NextField
     ensures value { result ≡ next_of body.now cursor }
     ensures reads { length body.now ≤ 65536 → Reads body.now cursor result }
 {
-    let e = refusal_at(body, cursor);
-    if e != 0 {
-        return NextField::Refused(e);
+    if cursor.refusal != 0 {
+        return NextField::Refused(cursor.refusal);
     }
     if cursor.left == 0 {
         return NextField::Done;
@@ -118,17 +117,6 @@ pub fn next_at(body: &[u8], cursor: Cursor) -> NextField
         FieldAt::HasField(f) => found(f, cursor.left - 1),
         FieldAt::NoField(e) => NextField::Refused(e),
     }
-}
-
-// The number of a body that the cursor says is refused. It is read anew, so that no cursor can tell a number of its own.
-fn refusal_at(body: &[u8], cursor: Cursor) -> u8
-    ensures { result ≡ refusal_at body.now cursor }
-{
-    if cursor.refused {
-        let x = body::parse_extension_bytes_as(body, Trailing::Ignored);
-        return x.refusal;
-    }
-    0
 }
 
 fn found(place: FieldPlace, left: u32) -> NextField
@@ -140,7 +128,7 @@ fn found(place: FieldPlace, left: u32) -> NextField
         cursor: Cursor {
             at,
             left,
-            refused: false,
+            refusal: 0,
         },
     })
 }
@@ -149,7 +137,7 @@ fn found(place: FieldPlace, left: u32) -> NextField
 pub fn value_at(body: &[u8], cursor: Cursor) -> &[u8]
     ensures { result.now ≡ value_at body.now cursor }
 {
-    if refusal_at(body, cursor) != 0 {
+    if cursor.refusal != 0 {
         return &body[..0];
     }
     if cursor.left == 0 {

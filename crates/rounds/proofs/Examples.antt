@@ -19,9 +19,10 @@ use Rattle.voting.specs.Common.{eq_z, first, gate}
 use Rattle.voting.specs.Settings.{voting_length, settings, fork_limit, soft_fork_approved, settings_large}
 use Rattle.voting.specs.Header.{votes_in, negation, ordinary_vote, fault, fault_in, check_votes, check_header_votes, votes_for, AllLegal}
 use Rattle.voting.specs.Tally.{headers, slot_entry, seeded, entry, entries, first_count, first_votes, counted_for}
-use Rattle.voting.specs.ForkCheck.{epochs_after, between, barred, check_round}
+use Rattle.voting.specs.ForkCheck.{epochs_after, between, barred, check_round, fork_refusal}
 use Rattle.voting.specs.ForkPart.{phase_at, fork_total, reads_total, closes_late, without, closes_early, restarts, begun, collected, rises, one_more, version_by, risen, five_steps, two_for_one, forced, finished, running, opening, by_start, fork_part}
 use Rattle.voting.proofs.Laws.Header.{first-zero}
+use Rattle.voting.proofs.Laws.Fork.{allowed}
 use Rattle.rounds.specs.Epochs.{boundary_votes, counted}
 use Rattle.rounds.specs.Book.{idle, since}
 use Rattle.rounds.specs.Replay.{Answer, refused, accepted, Replay, run, Lawful}
@@ -56,7 +57,7 @@ step g s r =
     gate refused (test (eqb (length r.votes) (3 * voting_length g)) 25)
     (gate refused (test (eqb r.height s.next && leb (r.height + voting_length g) (2 ^ 31)) 26)
     (gate refused (illegal (headers r.votes))
-    (gate refused (cond (boundary_votes r.votes) (check_round g r.height s.fork.start s.fork.votes) 0)
+    (gate refused (cond (boundary_votes r.votes) (fork_refusal (check_round g r.height s.fork.start s.fork.votes)) 0)
     (gate refused (part g s r).refusal
     (accepted (record { fork = (part g s r).fork; next = r.height + voting_length g; before = r.votes }))))))
 
@@ -112,7 +113,7 @@ lawful g s r t e₀ =
       height = eqb-true r.height s.next at.0;
       top = leb-true (r.height + voting_length g) (2 ^ 31) at.1;
       legal = legal (headers r.votes) (gate-zero _ _ _ e₂);
-      check = λ v. ap (λ (b : Bool). cond b (check_round g r.height s.fork.start s.fork.votes) 0) (sym v) ∙ gate-zero _ _ _ e₃;
+      check = λ v. allowed g r.height s.fork.start s.fork.votes (ap (λ (b : Bool). cond b (fork_refusal (check_round g r.height s.fork.start s.fork.votes)) 0) (sym v) ∙ gate-zero _ _ _ e₃);
       part = sym (ap (λ (z : State). z.fork) e₅);
       next = sym (ap (λ (z : State). z.next) e₅);
       brings = sym (ap (λ (z : State). brings z) e₅);
@@ -134,7 +135,7 @@ start = record { fork = entries_for idle 1; next = 2; before = [] }
 a-run : run (replay small) start
     (epoch 2 120 120 ∷ epoch 5 0 0 ∷ epoch 4 120 0 ∷ epoch 4 0 0 ∷ epoch 6 120 0 ∷ epoch 6 0 0 ∷ epoch 8 120 0 ∷ epoch 10 1 1 ∷ epoch 12 128 0 ∷ epoch 12 120 120 ∷ [])
     ≡ record { fork = entries_for (since 12 0) 2; next = 14; before = 120 ∷ 0 ∷ 0 ∷ 120 ∷ 0 ∷ 0 ∷ [] }
-unfolding run step gate test illegal first check_header_votes check_votes votes_in negation ordinary_vote fault fault_in votes_for count eq_z headers slot_entry seeded entry entries first_count first_votes boundary_votes epochs_after between barred check_round phase_at fork_total reads_total closes_late without closes_early restarts begun collected rises one_more version_by risen five_steps two_for_one forced finished running opening by_start fork_part fork_limit soft_fork_approved settings_large modulo bits_of signed_of wrapped
+unfolding run step gate test illegal first check_header_votes check_votes votes_in negation ordinary_vote fault fault_in votes_for count eq_z headers slot_entry seeded entry entries first_count first_votes boundary_votes epochs_after between barred check_round fork_refusal phase_at fork_total reads_total closes_late without closes_early restarts begun collected rises one_more version_by risen five_steps two_for_one forced finished running opening by_start fork_part fork_limit soft_fork_approved settings_large modulo bits_of signed_of wrapped
 a-run = refl
 
 -- and the promise holds of it, from this start

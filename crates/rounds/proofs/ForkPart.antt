@@ -13,7 +13,7 @@ use Rattle.voting.specs.declared.table.Fork.{Fork}
 use Rattle.voting.specs.declared.fork.Phase.{Phase}
 use Rattle.voting.specs.declared.fork.Forked.{Forked}
 use Rattle.voting.specs.declared.fork.ForkPart.{ForkPart}
-use Rattle.codec.specs.Refusal.{fork_vote_barred}
+use Rattle.voting.specs.declared.fork.ForkVote.TheVariants.{Allowed, Barred}
 use Rattle.codec.specs.Signed.{wrapped}
 use Rattle.voting.specs.Common.{eq_z, gate}
 use Rattle.voting.specs.Settings.{voting_length, vote_epochs, activation_epochs, version2_height, fork_limit, soft_fork_approved}
@@ -209,7 +209,7 @@ fork-idle g sound h c v true low mult small =
 
 -- a fork vote in the epochs V to V + A of a round is barred
 bars : (g : VotingConfig) → Sound g → (S j n : ℕ) → vote_epochs g ≤ j → j < vote_epochs g + activation_epochs g + 1
-    → (vote_epochs g < j → fork_limit g < n) → check_round g (S + voting_length g * j) (Number (pos S)) (Number (pos n)) ≡ fork_vote_barred
+    → (vote_epochs g < j → fork_limit g < n) → check_round g (S + voting_length g * j) (Number (pos S)) (Number (pos n)) ≡ Barred
 unfolding check_round barred between epochs_after soft_fork_approved
 bars g sound S j n lo hi late =
     simp (leb-scaled (voting_length g) S sound.length-positive, ltb-scaled (voting_length g) S sound.length-positive, le-leb (vote_epochs g) j lo)
@@ -224,7 +224,7 @@ bars g sound S j n lo hi late =
     simp (ap', lt-ltb j (vote_epochs g + 1) here)))
 
 pub silent : (g : VotingConfig) → Sound g → (S j n : ℕ) (vote : Bool)
-    → (vote ≡ true → check_round g (S + voting_length g * j) (Number (pos S)) (Number (pos n)) ≡ 0)
+    → (vote ≡ true → check_round g (S + voting_length g * j) (Number (pos S)) (Number (pos n)) ≡ Allowed)
     → vote_epochs g ≤ j → j < vote_epochs g + activation_epochs g + 1 → (vote_epochs g < j → fork_limit g < n) → vote ≡ false
 silent g sound S j n false e lo hi late = refl
-silent g sound S j n true e lo hi late = absurd (omega (arith, e refl, bars g sound S j n lo hi late))
+silent g sound S j n true e lo hi late = let a = e refl in let b = bars g sound S j n lo hi late in cc

@@ -3,6 +3,7 @@
 use Rattle.std.specs.Prelude.{ℕ, ◌+◌, ◌*◌, ◌^◌, ◌≤◌, ◌≡◌, true, List, [], ◌∷◌, pos, length}
 use Rattle.voting.specs.declared.settings.VotingConfig.{VotingConfig}
 use Rattle.voting.specs.declared.table.Fork.{Fork}
+use Rattle.voting.specs.declared.fork.ForkVote.TheVariants.{Allowed}
 use Rattle.voting.specs.Settings.{voting_length}
 use Rattle.voting.specs.Tally.{headers, seeded, entries, first_count}
 use Rattle.voting.specs.ForkCheck.{check_round}
@@ -64,7 +65,7 @@ pub record Accepted (g : VotingConfig) (m : Replay) (s : m.State) (r : m.Record)
   pub height : m.height r ≡ m.next s
   pub top : m.height r + voting_length g ≤ 2 ^ 31
   pub legal : AllLegal (headers (m.votes r))
-  pub check : boundary_votes (m.votes r) ≡ true → check_round g (m.height r) (m.fork s).start (m.fork s).votes ≡ 0
+  pub check : boundary_votes (m.votes r) ≡ true → check_round g (m.height r) (m.fork s).start (m.fork s).votes ≡ Allowed
   pub part : m.fork t ≡ (fork_part g (m.height r) (boundary_votes (m.votes r)) (m.fork_votes s) (m.fork s)).fork
   pub next : m.next t ≡ m.height r + voting_length g
   pub brings : m.fork_votes t ≡ first_count (pos soft_fork_vote) (entries (seeded (m.votes r)))

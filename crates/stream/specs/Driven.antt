@@ -1,7 +1,6 @@
 -- Every way of handing an input to the calls writes the same. docs/RULES.md, "Replay".
 -- Assumes nothing.
 use Rattle.std.specs.Prelude.{◌≡◌, ℕ, ◌≤◌, List, [], ◌∷◌, ◌++◌, length, drop}
-use mathlib.Core.List.{flatten}
 use Rattle.voting.specs.declared.settings.Network.TheVariants.{Mainnet}
 use Rattle.voting.specs.Settings.{voting_length, mainnet}
 use Rattle.voting.specs.Table.{default_parameters}
@@ -9,7 +8,8 @@ use Rattle.archive.specs.declared.replay.Replay.{Replay}
 use Rattle.archive.specs.Replay.{open_of}
 use Rattle.stream.specs.declared.run.Run.{Run}
 use Rattle.stream.specs.Lines.{head_line, line_most}
-use Rattle.stream.specs.Run.{prints, ahead, Ready, feed_of, finish_of}
+use Rattle.stream.specs.Stream.{joined}
+use Rattle.stream.specs.Run.{prints, ahead, longest_record, Ready, feed_of, finish_of}
 
 -- The state that program `replay` opens with: at mainnet's first epoch, with mainnet's first table.
 unfoldable pub mainnet_start : Replay
@@ -40,4 +40,4 @@ pub record Begins (printed : List ℕ → List ℕ) (longest : ℕ) (r : Run) : 
   pub opens : (cells input : List ℕ) → printed input ≡ head_line ++ ahead r cells input
   pub all-drivable : (cells : List ℕ) → longest ≤ length cells → (pieces : List (List ℕ)) → Drivable r cells pieces
   pub all-printed : (cells : List ℕ) → longest ≤ length cells → (pieces : List (List ℕ)) (text : List ℕ) → Driven r cells pieces text
-      → head_line ++ text ≡ printed (flatten pieces)
+      → head_line ++ text ≡ printed (joined pieces)

@@ -56,3 +56,7 @@ missing malformed = 0
 pub data Held (at : List ℕ → At) (bytes : List ℕ) : Type 0 where
   of-short : (k : ℕ) → short k ≡ at bytes → Held at bytes
   of-unless : (e : ℕ) → unless e ≡ at bytes → Held at bytes
+
+unfoldable pub joined : List (List ℕ) → List ℕ
+joined [] = []
+joined (piece ∷ pieces) = piece ++ joined pieces

@@ -43,6 +43,12 @@ pub(crate) fn with_one(name: &[u8], a: &[u8], n: usize, out: &mut [u8]) -> u16 {
     if check::same(name, b"check_headers") {
         return votes::ergo_check_headers(a) as u16;
     }
+    if check::same(name, b"check_body") {
+        return body::ergo_check_body(a) as u16;
+    }
+    if check::same(name, b"parse_extension_bytes") {
+        return body::ergo_parse_extension_bytes(a, out) as u16;
+    }
     if check::same(name, b"parse_validation_settings_update") {
         return update::ergo_parse_validation_settings_update(a, out) as u16;
     }
@@ -124,12 +130,6 @@ pub(crate) fn with_two(name: &[u8], a: &[u8], b: &[u8], n: usize, out: &mut [u8]
 }
 
 fn of_two(name: &[u8], a: &[u8], b: &[u8], out: &mut [u8]) -> u16 {
-    if check::same(name, b"check_body") {
-        return body::ergo_check_body(a, byte_of(b)) as u16;
-    }
-    if check::same(name, b"parse_extension_bytes") {
-        return body::ergo_parse_extension_bytes(a, byte_of(b), out) as u16;
-    }
     if check::same(name, b"field_at") {
         return body::ergo_field_at(a, lists::u32_of(b) as usize, out) as u16;
     }

@@ -1,6 +1,6 @@
 -- The fork check of a header. docs/RULES.md, "Fork check".
 -- Assumes nothing.
-use Rattle.std.specs.Prelude.{ℕ, ◌+◌, ◌*◌, Bool, true, false, cond, not, ◌&&◌, ◌||◌, List, ℤ, pos, ◌+ℤ◌, ◌==◌, int_le, int_lt}
+use Rattle.std.specs.Prelude.{ℕ, ◌+◌, ◌*◌, Bool, true, false, cond, not, ◌&&◌, ◌||◌, List, ℤ, pos, ◌+ℤ◌, int_le, int_lt}
 use Rattle.codec.specs.Refusal.{fork_vote_barred, setting_large, votes_collected_absent}
 use Rattle.voting.specs.declared.settings.VotingConfig.{VotingConfig}
 use Rattle.voting.specs.declared.table.Value.{Value}
@@ -26,22 +26,18 @@ barred g height start votes =
     (between g start height (vote_epochs g) (vote_epochs g + 1) && not (soft_fork_approved g votes))
     || (between g start height (vote_epochs g) (vote_epochs g + activation_epochs g + 1) && soft_fork_approved g votes)
 
--- with 122 and 121: allowed without 122, 19 without 121, and 12 where it is barred
-unfoldable pub check_round : VotingConfig → ℕ → Value → Value → ℕ
-check_round g height Absent votes = 0
-check_round g height (Number start) Absent = votes_collected_absent
-check_round g height (Number start) (Number votes) = cond (barred g height start votes) fork_vote_barred 0
+-- with 122 and 121: allowed without 122, and 19 without 121
+unfoldable pub check_round : VotingConfig → ℕ → Value → Value → ForkVote
+check_round g height Absent votes = Allowed
+check_round g height (Number start) Absent = Refused votes_collected_absent
+check_round g height (Number start) (Number votes) = cond (barred g height start votes) Barred Allowed
 
--- the number that turns a header down, 0 where it is allowed: 18 first; a header that does not vote 120 is allowed
-unfoldable pub check_fork_vote : VotingConfig → ℕ → List ℕ → Table → ℕ
+unfoldable pub check_fork_vote : VotingConfig → ℕ → List ℕ → Table → ForkVote
 check_fork_vote g height votes t =
-    cond (settings_large g) setting_large
-    (cond (votes_for soft_fork_vote votes) (check_round g height (lookup t id_starting_height) (lookup t id_votes_collected)) 0)
+    cond (settings_large g) (Refused setting_large)
+    (cond (votes_for soft_fork_vote votes) (check_round g height (lookup t id_starting_height) (lookup t id_votes_collected)) Allowed)
 
--- the answer that says a number, and the number that an answer says
-unfoldable pub fork_vote : ℕ → ForkVote
-fork_vote n = cond (n == 0) Allowed (cond (n == fork_vote_barred) Barred (Refused n))
-
+-- the number that turns a header down: a vote that is barred is 12
 unfoldable pub fork_refusal : ForkVote → ℕ
 fork_refusal Allowed = 0
 fork_refusal Barred = fork_vote_barred

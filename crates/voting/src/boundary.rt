@@ -1,5 +1,5 @@
 // The boundary on values. docs/RULES.md, "Boundary".
-ghost use Rattle.std.specs.Prelude.{◌≡◌, []};
+ghost use Rattle.std.specs.Prelude.{◌≡◌, [], pos};
 ghost use Rattle.voting.specs.Tally.{entry, entries};
 ghost use Rattle.voting.specs.Ordinary.{onward, voted};
 ghost use Rattle.voting.specs.Boundary.{refuses, is_number, is_absent, with_subblocks, boundary_of};

@@ -1,7 +1,7 @@
 // Soft-fork rounds: the fork check of a header, and the fork part of a boundary. docs/RULES.md, "Fork check" and "Boundary".
 ghost use Rattle.std.specs.Prelude.{◌≡◌, ◌*◌, ◌<◌, false, pos, ◌+ℤ◌, if◌then◌else◌};
 ghost use Rattle.voting.specs.Settings.{voting_length, settings_large};
-ghost use Rattle.voting.specs.ForkCheck.{barred, check_round, check_fork_vote, fork_vote, fork_refusal, round_open, votes_open};
+ghost use Rattle.voting.specs.ForkCheck.{barred, check_round, check_fork_vote, fork_refusal, round_open, votes_open};
 ghost use Rattle.voting.specs.ForkPart.{no_round, fork_refused, phase_at, fork_total, reads_total, closes_late, closes_early, restarts, rises, without, begun, collected, one_more, risen, five_steps, round_steps, two_for_one, forced, finished, running, opening, fork_part};
 
 use crate::header;
@@ -76,7 +76,7 @@ fn is_barred(config: VotingConfig, height: u32, start: i32, votes: i32) -> bool
 
 fn check_round(config: VotingConfig, height: u32, start: Value, votes: Value) -> ForkVote
     requires { settings_large config ≡ false }
-    ensures { result ≡ fork_vote (check_round config height start votes) }
+    ensures { result ≡ check_round config height start votes }
 {
     match start {
         Value::Absent => ForkVote::Allowed,
@@ -94,8 +94,7 @@ fn check_round(config: VotingConfig, height: u32, start: Value, votes: Value) ->
 
 // Whether a header at a height may vote as it does: allowed, barred, or refused by 18 or 19.
 pub fn check_fork_vote(config: VotingConfig, height: u32, votes: [u8; 3], table: Table) -> ForkVote
-    ensures value { result ≡ fork_vote (check_fork_vote config height votes table) }
-    ensures told { fork_refusal result ≡ check_fork_vote config height votes table }
+    ensures { result ≡ check_fork_vote config height votes table }
 {
     if config.settings_large() {
         return ForkVote::Refused(refusal::SETTING_LARGE);

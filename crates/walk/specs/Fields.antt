@@ -1,6 +1,6 @@
 -- The code's shape, which need not be believed: laws join it to what the contracts of `walk` say.
 -- Assumes nothing.
-use Rattle.std.specs.Prelude.{ℕ, ◌+◌, ◌-◌, cond, List, [], ◌∷◌, ltb, leb, eqb, length, get_or, set, replicate}
+use Rattle.std.specs.Prelude.{ℕ, ◌-◌, cond, List, [], ◌∷◌, ltb, leb, eqb, length, get_or, set, replicate}
 use Rattle.voting.specs.Table.{slot, fork_entries}
 use Rattle.voting.specs.declared.table.Value.TheVariants.{Absent}
 use Rattle.voting.specs.declared.table.Slot.{Slot}
@@ -14,7 +14,7 @@ use Rattle.walk.specs.Walk.{table_in}
 
 -- the place of an id among the twelve, 12 for any other; and of a field
 unfoldable pub slot_of : ℕ → ℕ
-slot_of id = cond (ltb id 1) 12 (cond (leb id 9) (id - 1) (cond (ltb id 121) 12 (cond (ltb 123 id) 12 (id - 121 + 9))))
+slot_of id = cond (ltb id 1) 12 (cond (leb id 9) (id - 1) (cond (ltb id 121) 12 (cond (ltb 123 id) 12 (id - 112))))
 
 unfoldable pub place_of : ℕ → ℕ → ℕ
 place_of key0 key1 = cond (eqb key0 0) (slot_of key1) 12

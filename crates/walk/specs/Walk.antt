@@ -3,11 +3,10 @@
 use Rattle.std.specs.Prelude.{ℕ, ◌≡◌, cond, List, [], ◌∷◌}
 use Rattle.voting.specs.Table.{lookup, slot, fork_entries}
 use Rattle.voting.specs.declared.table.Table.{Table}
-use Rattle.extension.specs.declared.body.Trailing.{Trailing}
 use Rattle.extension.specs.declared.parameters.ParameterMap.{ParameterMap}
 use Rattle.extension.specs.declared.parameters.Matched.{Matched}
 use Rattle.extension.specs.Section.{PartIs}
-use Rattle.extension.specs.Body.{proposed_update, check_body_as}
+use Rattle.extension.specs.Body.{proposed_update, check_body}
 use Rattle.extension.specs.Parameters.{entry_of, parameters_of, agrees, table_ids, matched}
 use Rattle.walk.specs.declared.Walked.{Walked}
 
@@ -20,8 +19,8 @@ table_in m =
     }
 
 -- the check of a body, its proposed update, and its parameters, on every body
-pub record WalkedIs (trailing : Trailing) (body : List ℕ) (r : Walked) : Type 0 where
-  pub parsed : r.parsed ≡ check_body_as trailing body
+pub record WalkedIs (body : List ℕ) (r : Walked) : Type 0 where
+  pub parsed : r.parsed ≡ check_body body
   pub update : PartIs body r.start r.end (proposed_update body)
   pub found : r.found ≡ table_in (parameters_of body).map
 

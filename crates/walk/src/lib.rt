@@ -9,15 +9,11 @@ ghost use Rattle.walk.specs.Fields.{place_of, slot_in, table_from, refused_walk,
 
 use codec::vlq::Read;
 use codec::{refusal, vlq};
-use extension::body::{FieldAt, Trailing};
+use extension::body::FieldAt;
 use extension::parameters::Matched;
 use extension::section::Parsed;
 use extension::{body, parameters, section};
-use voting::table;
 use voting::table::{Fork, Slot, Table, Value};
-
-// The place of every field that holds none of a table's twelve entries.
-const OTHER_FIELDS: usize = 12;
 
 // The refusal's number and the section of the fields; where the bytes of the proposed update begin and end; and what the body's parameters
 // have of a table's twelve entries. A refused body has no parameters; where only a size is wrong, the update is the one of the fields.
@@ -29,9 +25,9 @@ pub struct Walked {
     pub found: Table,
 }
 
-// One pass over the fields of a body. What becomes of bytes after the last one is the caller's choice.
-pub fn walk_body(body: &[u8], trailing: Trailing) -> Walked
-    ensures { WalkedIs trailing body.now result }
+// One pass over the fields of a body.
+pub fn walk_body(body: &[u8]) -> Walked
+    ensures { WalkedIs body.now result }
 {
     if body::INPUT_MOST < body.len() {
         return refused(refusal::INPUT_LONG);
@@ -40,7 +36,7 @@ pub fn walk_body(body: &[u8], trailing: Trailing) -> Walked
         return refused(refusal::BODY_SHORT);
     }
     match vlq::read_u32(body, body::HEADER_ID_SIZE) {
-        Read::Value(m) => walk_fields(body, trailing, m.value as u32, m.next),
+        Read::Value(m) => walk_fields(body, m.value as u32, m.next),
         Read::Unreadable => refused(refusal::COUNT_UNREADABLE),
     }
 }
@@ -61,9 +57,9 @@ pub fn match_found(expected: Table, found: Table) -> Matched
 
 // The fields of a body, that is so many from a position on. A slot for each of the twelve entries, and one for every other field, so that
 // each field is stored without a test; the first update field is kept; a wrong size is told after all fields are read.
-fn walk_fields(body: &[u8], trailing: Trailing, count: u32, begin: usize) -> Walked
+fn walk_fields(body: &[u8], count: u32, begin: usize) -> Walked
     requires { (length body.now ≤ 65536) × (closed count begin (listing (read_field body.now) count begin) ≡ extension_of body.now) }
-    ensures { WalkedIs trailing body.now result }
+    ensures { WalkedIs body.now result }
 {
     let none = Slot {
         value: Value::Absent,
@@ -105,9 +101,8 @@ fn walk_fields(body: &[u8], trailing: Trailing, count: u32, begin: usize) -> Wal
             found: no_entries(),
         };
     }
-    let fields = section::read(count, begin, at);
     Walked {
-        parsed: body::judged(fields, body.len(), trailing),
+        parsed: section::read(count, begin, at),
         start,
         end,
         found: table_of(found),
@@ -142,26 +137,26 @@ fn no_entries() -> Table
     }
 }
 
-// The place of a field's entry among the twelve, or that of other fields.
+// The place of a field's entry among the twelve; 12 for any other field.
 fn place_of(key0: u8, key1: u8) -> usize
     ensures { (result ≡ place_of key0 key1) × (result ≤ 12) }
 {
     if key0 != 0 {
-        return OTHER_FIELDS;
+        return 12;
     }
     if key1 < 1 {
-        return OTHER_FIELDS;
+        return 12;
     }
-    if key1 <= table::ID_SUBBLOCKS_PER_BLOCK {
+    if key1 <= 9 {
         return (key1 - 1) as usize;
     }
-    if key1 < table::ID_SOFT_FORK_VOTES_COLLECTED {
-        return OTHER_FIELDS;
+    if key1 < 121 {
+        return 12;
     }
-    if table::ID_BLOCK_VERSION < key1 {
-        return OTHER_FIELDS;
+    if 123 < key1 {
+        return 12;
     }
-    (key1 - table::ID_SOFT_FORK_VOTES_COLLECTED + table::ID_SUBBLOCKS_PER_BLOCK) as usize
+    (key1 - 112) as usize
 }
 
 // A value of four bytes as an entry, any other as none.
@@ -222,17 +217,17 @@ fn fork_unlike(expected: Fork, found: Fork) -> u8
     let votes = expected.votes;
     let found_votes = found.votes;
     if parameters::differs(votes, found_votes) {
-        return table::ID_SOFT_FORK_VOTES_COLLECTED;
+        return 121;
     }
     let start = expected.start;
     let found_start = found.start;
     if parameters::differs(start, found_start) {
-        return table::ID_SOFT_FORK_STARTING_HEIGHT;
+        return 122;
     }
     let version = expected.version;
     let found_version = found.version;
     if parameters::differs(version, found_version) {
-        return table::ID_BLOCK_VERSION;
+        return 123;
     }
     0
 }

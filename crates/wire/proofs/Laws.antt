@@ -1,13 +1,16 @@
 -- Pieces one after another: how stores join, and the steps of the loops over slots. Assumes nothing.
 use mathlib.Core.Path.{◌≡◌, refl, sym, ap, ◌∙◌}
-use mathlib.Core.List.{List, [], ◌∷◌, ◌++◌, map, append-nil, flat_map}
+use mathlib.Core.List.{List, [], ◌∷◌, ◌++◌, map, append-nil}
+use mathlib.Core.Bool.{Bool, true, false, cond}
 use Prim.Native.Nat.{ℕ, zero, suc, ◌+◌, ◌*◌, ◌-◌, ◌/◌, ◌%◌, ◌≤◌, ◌<◌}
 use native.Mathlib.Numerals.{add-one}
 use native.Mathlib.Omega.{arith}
 use lib.IntN.{ℤ}
-use lib.ListN.{length, get_or, drop, set, length-append, drop_of_length-le}
+use lib.ListN.{length, get_or, take, drop, set, length-append, drop_of_length-le}
 use lib.Seq.{sets, sets-eq, drop-cons}
-use Rattle.codec.specs.Output.{Outcome, writes}
+use Rattle.codec.specs.BigEndian.{big_endian, big_endian_bytes}
+use Rattle.codec.specs.Output.{Outcome, wrote, refused, outcome, writes}
+use Rattle.codec.specs.declared.output.Wrote.{Wrote}
 use Rattle.codec.specs.Signed.{bits_of, signed_of}
 use Rattle.codec.proofs.Laws.BigEndian.{bytes-length, four_bytes_lem}
 use Rattle.codec.proofs.Laws.Output.{sets-append}
@@ -71,16 +74,16 @@ value-long (Number z) = ap suc (bytes-length 4 (bits_of 32 z))
 
 -- slots put: one, and then the others; all of them
 pub slots-put : (slots : List Slot) (i : ℕ) → i < length slots → {out out' : List ℕ} {k : ℕ} → Put 5 k (value_bytes (get_or slots i (slot Absent)).value) out out' → sets out' (k + 5) (slots_bytes (drop (i + 1) slots)) ≡ sets out k (slots_bytes (drop i slots))
-unfolding slots_bytes flat_map
+unfolding slots_bytes
 slots-put slots i h p = rw (drop-cons slots i (slot Absent) h, add-one i) (behind p (slots_bytes (drop (suc i) slots)))
 
 pub slots-long : (slots : List Slot) → length (slots_bytes slots) ≡ 5 * length slots
-unfolding slots_bytes flat_map
+unfolding slots_bytes
 slots-long [] = refl
 slots-long (s ∷ ss) = rw (length-append (value_bytes s.value) (slots_bytes ss), value-long s.value, slots-long ss) (omega arith)
 
 pub all-put : (slots : List Slot) {out out' : List ℕ} {at : ℕ} (k i : ℕ) → length slots ≡ 9 → 9 ≤ i → sets out' k (slots_bytes (drop i slots)) ≡ sets out at (slots_bytes slots) → Put 45 at (slots_bytes slots) out out'
-unfolding slots_bytes flat_map
+unfolding slots_bytes
 all-put slots {out} {out'} {at} k i l h e =
     let g : length slots ≤ i = omega arith in
     record { is = sym (none (drop i slots) (drop_of_length-le slots g)) ∙ e; long = slots-long slots ∙ ap (λ (n : ℕ). 5 * n) l }

@@ -26,7 +26,7 @@ use Rattle.voting.proofs.Laws.Tests.{by-test}
 use Rattle.extension.specs.declared.parameters.ParameterMap.{ParameterMap}
 use Rattle.extension.specs.Parameters.{no_parameters, entry_of, store, number_in}
 use Rattle.extension.proofs.Laws.PackTrip.{Held, Sound}
-use Rattle.wire.specs.Numbers.{number_bytes}
+use Rattle.wire.specs.Numbers.{bytes_at, number_bytes}
 use Rattle.wire.specs.Values.{marked}
 use Rattle.wire.specs.Map.{present_bytes, present_from, map_bytes, map_in, map_of, MapBack}
 

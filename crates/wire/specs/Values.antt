@@ -1,7 +1,6 @@
 -- Values, tables, settings and tallies in bytes, at a position. docs/VECTORS.md, "Bytes".
 -- Assumes nothing.
-use Rattle.std.specs.Prelude.{ℕ, zero, suc, ◌+◌, get_or}
-use mathlib.Core.List.{List, [], ◌∷◌, ◌++◌, flat_map}
+use Rattle.std.specs.Prelude.{ℕ, zero, suc, ◌+◌, List, [], ◌∷◌, ◌++◌, get_or}
 use Rattle.codec.specs.Signed.{bits_of, signed_of}
 use Rattle.voting.specs.declared.settings.VotingConfig.{VotingConfig}
 use Rattle.voting.specs.declared.table.Value.{Value}
@@ -33,7 +32,8 @@ value_at bytes at = value_of (get_or bytes at 0) (number_at bytes (at + 1))
 
 -- slots, one after another
 unfoldable pub slots_bytes : List Slot → List ℕ
-slots_bytes slots = flat_map (λ (s : Slot). value_bytes s.value) slots
+slots_bytes [] = []
+slots_bytes (s ∷ ss) = value_bytes s.value ++ slots_bytes ss
 
 unfoldable pub slots_at : ℕ → List ℕ → ℕ → List Slot
 slots_at zero bytes at = []

@@ -1,5 +1,5 @@
 // Where parts of an input stand: sections, updates, and what the readers of a body, an update and a record find.
-ghost use Rattle.std.specs.Prelude.{◌≡◌, ◌≤◌, length};
+ghost use Rattle.std.specs.Prelude.{◌≡◌, ◌≤◌, ◌<◌, ◌^◌, length};
 ghost use Rattle.codec.specs.Output.{outcome, writes};
 ghost use Rattle.wire.specs.Put.{Put, Back, Written};
 ghost use Rattle.wire.specs.Places.{section_at, section_bytes, update_at, update_bytes, field_bytes, rule_bytes, status_bytes, record_bytes, Narrow};

@@ -1,12 +1,10 @@
 -- Fields written from lists, and read back. docs/RULES.md, "Writers and rest".
 -- Assumes nothing.
-use Rattle.std.specs.Prelude.{◌≡◌, ℕ, ◌*◌, ◌≤◌, Bool, cond, not, ltb, List, [], ◌∷◌, length, take, drop, ◌==◌, nat_lt}
-use mathlib.Core.List.{flat_map}
+use Rattle.std.specs.Prelude.{◌≡◌, ℕ, ◌*◌, ◌≤◌, Bool, cond, not, ltb, List, [], ◌∷◌, ◌++◌, length, take, drop, ◌==◌, nat_lt}
 use Rattle.codec.specs.Refusal.{field_header_cut, value_cut, input_long, written_value_long}
 use Rattle.codec.specs.Output.{Outcome, writing}
 use Rattle.extension.specs.Section.{any}
-use Rattle.extension.specs.declared.body.Trailing.TheVariants.{Refused}
-use Rattle.extension.specs.Body.{Field, extension_as, fields_of}
+use Rattle.extension.specs.Body.{Field, extension_of, fields_of}
 use Rattle.extension.specs.Encode.{sum}
 use Rattle.extension.specs.Pack.{wire_fields, pack_refusal, packed}
 
@@ -23,7 +21,8 @@ unfoldable pub field_bytes : Field → List ℕ
 field_bytes f = f.key0 ∷ f.key1 ∷ length f.value ∷ f.value
 
 unfoldable pub fields_bytes : List Field → List ℕ
-fields_bytes fields = flat_map field_bytes fields
+fields_bytes [] = []
+fields_bytes (f ∷ fs) = field_bytes f ++ fields_bytes fs
 
 -- the size of a value that is too long
 abbrev pub long_size : ℕ → Bool
@@ -44,5 +43,5 @@ pack_fields keys sizes values cells =
 -- fields that were written are a list that a body is packed of, and the body, if it is not too long to be read, is read back to them
 pub record FieldsBack (fs : List Field) : Type 0 where
   pub packs : pack_refusal (wire_fields (fields_bytes fs)) ≡ 0
-  pub parsed : (header : List ℕ) → length header ≡ 32 → length (packed header (fields_bytes fs)) ≤ 65536 → (extension_as Refused (packed header (fields_bytes fs))).refusal ≡ 0
+  pub parsed : (header : List ℕ) → length header ≡ 32 → length (packed header (fields_bytes fs)) ≤ 65536 → (extension_of (packed header (fields_bytes fs))).refusal ≡ 0
   pub same : (header : List ℕ) → length header ≡ 32 → length (packed header (fields_bytes fs)) ≤ 65536 → fields_of (packed header (fields_bytes fs)) ≡ fs

@@ -7,10 +7,9 @@ use Rattle.codec.specs.BigEndian.{big_endian_bytes}
 use Rattle.codec.specs.Output.{Outcome, writing, writes}
 use Rattle.voting.specs.declared.table.Value.{Value}
 use Rattle.voting.specs.declared.table.Value.TheVariants.{Absent, Number}
-use Rattle.extension.specs.declared.body.Trailing.TheVariants.{Refused}
 use Rattle.extension.specs.declared.parameters.ParameterMap.{ParameterMap}
 use Rattle.extension.specs.Section.{items}
-use Rattle.extension.specs.Body.{extension_as, fields_of, header_id, check_body_as}
+use Rattle.extension.specs.Body.{extension_of, fields_of, header_id, check_body}
 use Rattle.extension.specs.Parameters.{entry_of, parameters_of}
 use Rattle.extension.specs.Pack.{wire_fields, pack_refusal, packed}
 
@@ -19,7 +18,7 @@ pack_extension id fields cells = writing (pack_refusal (wire_fields fields)) (pa
 
 -- what was packed, if it is not too long to be read, is read back
 pub record PackedBack (id fields : List ℕ) : Type 0 where
-  pub parsed : (extension_as Refused (packed id fields)).refusal ≡ 0
+  pub parsed : (extension_of (packed id fields)).refusal ≡ 0
   pub same_id : header_id (packed id fields) ≡ id
   pub same-fields : fields_of (packed id fields) ≡ items (wire_fields fields)
 
@@ -47,6 +46,6 @@ pack_parameters m cells = writes (parameter_bytes m) cells
 -- the body with these fields passes the body check, and has the parameters that were written
 pub record ParametersBack (m : ParameterMap) (header : List ℕ) : Type 0 where
   pub packs : pack_refusal (wire_fields (parameter_bytes m)) ≡ 0
-  pub checked : (check_body_as Refused (packed header (parameter_bytes m))).refusal ≡ 0
+  pub checked : (check_body (packed header (parameter_bytes m))).refusal ≡ 0
   pub read : (parameters_of (packed header (parameter_bytes m))).refusal ≡ 0
   pub same : (id : ℕ) → id ≤ 255 → entry_of (parameters_of (packed header (parameter_bytes m))).map id ≡ cond (id == 124) Absent (entry_of m id)

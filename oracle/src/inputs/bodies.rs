@@ -12,9 +12,6 @@ use crate::call::Call;
 use crate::table::{self, Map};
 use crate::{places, rules};
 
-/// The choice by which bytes after the last field are ignored, as the Rust does.
-const IGNORED: [u8; 1] = [1];
-
 fn field(random: &mut Random) -> ExtensionField {
     let second = random.pick(&[1, 2, 3, 8, 9, 121, 122, 123, 124, 125, 128, 255, 0]);
     let key = [random.pick(&[0, 0, 0, 0, 1, 2, 255]), second];
@@ -42,10 +39,9 @@ pub fn body(random: &mut Random) -> Vec<u8> {
 
 /// What a body is asked: whether it is in form, its fields, parameters and update, and the field at each of these places.
 pub fn asked<'a>(body: &'a [u8], at: &'a [usize]) -> impl Iterator<Item = Call> + 'a {
-    let read = ["check_body", "parse_extension_bytes"].map(|name| Call::new(name, [body.to_vec(), IGNORED.to_vec()]));
-    let whole = ["parse_parameters_from_kv", "extract_disabling_rules_from_kv"].map(|name| Call::new(name, [body.to_vec()]));
+    let whole = ["check_body", "parse_extension_bytes", "parse_parameters_from_kv", "extract_disabling_rules_from_kv"];
     let fields = at.iter().map(|&at| Call::new("field_at", [body.to_vec(), numbers(&[at])]));
-    read.into_iter().chain(whole).chain(fields)
+    whole.into_iter().map(|name| Call::new(name, [body.to_vec()])).chain(fields)
 }
 
 /// Where the fields of a body stand, if the Rust reads it.
@@ -58,7 +54,7 @@ pub fn make(random: &mut Random) -> Vec<Call> {
     let body = body(random);
     let body = random.damaged(body);
     if random.one_in(50) {
-        return (0..=body.len()).map(|size| Call::new("check_body", [body[..size].to_vec(), IGNORED.to_vec()])).collect();
+        return (0..=body.len()).map(|size| Call::new("check_body", [body[..size].to_vec()])).collect();
     }
     let mut at = fields_at(&body);
     at.push(random.below(body.len() + 3));

@@ -14,7 +14,7 @@ use Rattle.voting.specs.Common.{first}
 use Rattle.voting.specs.Settings.{settings_large}
 use Rattle.voting.specs.Header.{soft_fork_vote, votes_for}
 use Rattle.voting.specs.Tally.{headers}
-use Rattle.voting.specs.ForkCheck.{check_fork_vote, votes_open}
+use Rattle.voting.specs.ForkCheck.{check_fork_vote, fork_refusal, votes_open}
 use Rattle.voting.proofs.Laws.Header.{first-pass, first-stop}
 use Rattle.voting.proofs.Laws.Fork.{open-allows}
 use Rattle.headers.proofs.Laws.Headers.{header_at, headers-end, headers-here}
@@ -25,7 +25,7 @@ module _ (s : List ℕ) (i : ℕ) (g : VotingConfig) (t : Table) (height : ℕ) 
   unfolding fork_refusals
   forks-end h = rw (headers-end s i h)
 
-  module _ (h : i < length s / 3) (e : ℕ) (is-e : e ≡ check_fork_vote g height (header_at s i) t) where
+  module _ (h : i < length s / 3) (e : ℕ) (is-e : e ≡ fork_refusal (check_fork_vote g height (header_at s i) t)) where
     pub forks-stop : (e ≡ 0 → ⊥) → e ≡ fork_refusals g t height (headers (drop (3 * i) s))
     unfolding fork_refusals
     forks-stop d = rw (headers-here s i h, ← is-e) (sym (first-stop e _ d))
@@ -35,8 +35,8 @@ module _ (s : List ℕ) (i : ℕ) (g : VotingConfig) (t : Table) (height : ℕ) 
     forks-pass z = rw (headers-here s i h, ← is-e) (sym (first-pass e _ z))
 
 -- without a vote for the fork every header is allowed
-quiet-header : (g : VotingConfig) (height : ℕ) (h : List ℕ) (t : Table) → settings_large g ≡ false → count (eqb soft_fork_vote) h ≡ 0 → check_fork_vote g height h t ≡ 0
-unfolding check_fork_vote votes_for
+quiet-header : (g : VotingConfig) (height : ℕ) (h : List ℕ) (t : Table) → settings_large g ≡ false → count (eqb soft_fork_vote) h ≡ 0 → fork_refusal (check_fork_vote g height h t) ≡ 0
+unfolding check_fork_vote fork_refusal votes_for
 quiet-header g height h t l z = rw (l, z)
 
 pub quiet-forks : (g : VotingConfig) (t : Table) → settings_large g ≡ false → (votes : List ℕ) (height : ℕ) → count (eqb soft_fork_vote) votes ≡ 0 → 0 ≡ fork_refusals g t height (headers votes)

@@ -1,8 +1,8 @@
 -- A record that is refused by 15 carries the least id that differs; no other test of a replay answers 15.
 -- Assumes nothing.
-use mathlib.Core.Path.{◌≡◌, refl, sym, ap, subst}
-use mathlib.Core.Logic.{inl, inr}
-use mathlib.Core.Bool.{Bool, true, false, cond, ◌&&◌}
+use mathlib.Core.Path.{◌≡◌, refl, sym, ap, subst, ◌∙◌}
+use mathlib.Core.Logic.{◌⊎◌, inl, inr}
+use mathlib.Core.Bool.{Bool, true, false, cond, ◌&&◌, true≢false}
 use mathlib.Core.List.{List, [], ◌∷◌}
 use Prim.Native.Nat.{ℕ, zero, suc, ◌+◌, ◌^◌}
 use native.Mathlib.Omega.{arith}
@@ -16,12 +16,13 @@ use Rattle.voting.specs.Common.{first}
 use Rattle.voting.specs.Settings.{voting_length}
 use Rattle.voting.specs.Header.{check_header_votes}
 use Rattle.voting.specs.Tally.{headers, entries}
-use Rattle.voting.specs.ForkCheck.{check_fork_vote}
+use Rattle.voting.specs.ForkCheck.{check_fork_vote, fork_refusal}
 use Rattle.voting.proofs.Laws.Refusals.{Other, first-other, header-other, fork-vote-other}
 use Rattle.rounds.specs.Epochs.{boundary_votes}
+use Rattle.extension.specs.declared.boundary.Computed.{Computed}
 use Rattle.extension.specs.declared.parameters.Matched.{Matched}
 use Rattle.extension.specs.declared.parameters.ParameterMap.{ParameterMap}
-use Rattle.extension.specs.Body.{proposed_update}
+use Rattle.extension.specs.Body.{check_body, proposed_update}
 use Rattle.extension.specs.Parameters.{parameters_of, check_parameters, Stands, LeastDiffering, LeastCarried}
 use Rattle.extension.proofs.Laws.Matched.{least-carried}
 use Rattle.extension.proofs.Laws.Refusals.{body-other, computed-other}
@@ -30,12 +31,12 @@ use Rattle.archive.specs.declared.record.RecordAt.{RecordAt}
 use Rattle.archive.specs.declared.record.RecordAt.TheVariants.{Whole, Short, Malformed}
 use Rattle.archive.specs.declared.replay.Replay.{Replay}
 use Rattle.archive.specs.declared.replay.Verdict.{Verdict}
+use Rattle.archive.specs.declared.replay.Verdict.TheVariants.{Accepted, Refused, Mismatch}
 use Rattle.archive.specs.declared.replay.Replayed.{Replayed}
 use Rattle.archive.specs.Record.{record_at}
 use Rattle.headers.specs.Headers.{headers_refusal, check_headers}
 use Rattle.archive.specs.ForkVotes.{fork_refusals, check_fork_votes}
-use Rattle.archive.specs.Replay.{refuses, gate, after_match, after_boundary, height_refusal, boundary_on, on_parts, body_bytes, vote_bytes, on_record, votes_size, replay_of, Exhausted, verdict_number, verdict_id, LeastOfRecord, replay_reading, TrailingIgnored}
-use Rattle.archive.proofs.Laws.Trailing.{trailing-ignored}
+use Rattle.archive.specs.Replay.{refuses, gate, onward, after_match, after_boundary, height_refusal, boundary_on, on_parts, body_bytes, vote_bytes, on_record, votes_size, replay_of, Exhausted, verdict_number, verdict_id, LeastOfRecord}
 use Rattle.archive.proofs.Laws.Replay.{match-stop, exhausted}
 
 -- the other tests of a replay
@@ -61,7 +62,7 @@ fork-votes-other g t height votes = go height (headers votes)
   where
     go : (height : ℕ) (hs : List (List ℕ)) → Other (fork_refusals g t height hs)
     go height [] = refl
-    go height (h ∷ hs) = first-other (check_fork_vote g height h t) (fork_refusals g t (height + 1) hs) (fork-vote-other g height h t) (go (height + 1) hs)
+    go height (h ∷ hs) = first-other (fork_refusal (check_fork_vote g height h t)) (fork_refusals g t (height + 1) hs) (fork-vote-other g height h t) (go (height + 1) hs)
 
 -- what a verdict says of a computed table and a body's parameters
 abbrev Judged : Table → ParameterMap → Verdict → Type 0
@@ -89,7 +90,7 @@ parts-judged s height body votes =
     gate-judged t m s _ _ (height-other s height)
     (gate-judged t m s _ _ (headers-other votes)
     (gate-judged t m s _ _ (fork-votes-other s.settings s.table height (take 3 votes))
-    (gate-judged t m s _ _ (body-other replay_reading body)
+    (gate-judged t m s _ _ (body-other body)
     (gate-judged t m s _ _ (computed-other s.settings height s.table (entries s.tally) (boundary_votes votes) (proposed_update body))
     (match-judged t m s height votes (check_parameters t m) (least-carried t m (check_parameters t m) refl).1)))))
 
@@ -111,5 +112,5 @@ least-of-record s xs = go (record_at xs (votes_size s.settings)) refl
     go Malformed q = (λ e. absurd (omega arith), λ e. absurd (omega arith))
 
 -- what a replay promises
-pub promised : (s : Replay) (xs : List ℕ) (r : Replayed) → r ≡ replay_of s xs → (r ≡ replay_of s xs) × (Exhausted s xs r × (LeastOfRecord s xs r × TrailingIgnored s xs r))
-promised s xs r e = (e, (exhausted s xs r e, (subst (LeastOfRecord s xs) (sym e) (least-of-record s xs), trailing-ignored s xs r e)))
+pub promised : (s : Replay) (xs : List ℕ) (r : Replayed) → r ≡ replay_of s xs → (r ≡ replay_of s xs) × (Exhausted s xs r × LeastOfRecord s xs r)
+promised s xs r e = (e, (exhausted s xs r e, subst (LeastOfRecord s xs) (sym e) (least-of-record s xs)))

@@ -16,7 +16,7 @@ use Rattle.voting.specs.Common.{first}
 use Rattle.voting.specs.Settings.{voting_length, mainnet}
 use Rattle.voting.specs.Header.{soft_fork_vote, votes_for}
 use Rattle.voting.specs.Tally.{headers, no_tally, entries, tally_votes_seeded, first_votes}
-use Rattle.voting.specs.ForkCheck.{check_fork_vote}
+use Rattle.voting.specs.ForkCheck.{check_fork_vote, fork_refusal}
 use Rattle.voting.specs.declared.tally.Tallied.{Tallied}
 use Rattle.voting.proofs.Laws.Header.{first-pass, first-stop, first-zero}
 use Rattle.voting.proofs.Laws.Tests.{both}
@@ -25,7 +25,7 @@ use Rattle.extension.specs.declared.boundary.Computed.{Computed}
 use Rattle.extension.specs.declared.parameters.Matched.{Matched}
 use Rattle.extension.specs.declared.section.Parsed.{Parsed}
 use Rattle.extension.specs.Section.{part}
-use Rattle.extension.specs.Body.{check_body_as, proposed_update}
+use Rattle.extension.specs.Body.{check_body, proposed_update}
 use Rattle.extension.specs.Parameters.{parameters_of}
 use Rattle.extension.specs.Boundary.{computed_of}
 use Rattle.walk.specs.declared.Walked.{Walked}
@@ -41,7 +41,7 @@ use Rattle.archive.specs.declared.replay.Opened.{Opened}
 use Rattle.archive.specs.Record.{record_at}
 use Rattle.headers.specs.Headers.{check_headers}
 use Rattle.archive.specs.ForkVotes.{fork_refusals, check_fork_votes}
-use Rattle.archive.specs.Replay.{refuses, gate, body_bytes, vote_bytes, onward, after_match, after_boundary, height_refusal, early_refusal, on_parts, on_record, votes_size, replay_of, Exhausted, may_open, opening_refusal, opened, open_of, replay_reading}
+use Rattle.archive.specs.Replay.{refuses, gate, body_bytes, vote_bytes, onward, after_match, after_boundary, height_refusal, early_refusal, on_parts, on_record, votes_size, replay_of, Exhausted, may_open, opening_refusal, opened, open_of}
 use Rattle.archive.specs.Rounds.{RoundsKept}
 use Rattle.archive.specs.Steps.{StepsBy, StepsKept}
 use Rattle.archive.specs.Mainnet.{MainnetSteps}
@@ -82,13 +82,13 @@ module _ (g : VotingConfig) (t : Table) (height : ℕ) where
   boundary-few (a ∷ b ∷ []) h = refl
   boundary-few (a ∷ b ∷ c ∷ votes) h = absurd (omega arith)
 
-  pub boundary-one : (votes : List ℕ) → 3 ≤ length votes → (e : ℕ) → e ≡ check_fork_vote g height (get_or votes 0 0 ∷ get_or votes 1 0 ∷ get_or votes 2 0 ∷ []) t
+  pub boundary-one : (votes : List ℕ) → 3 ≤ length votes → (e : ℕ) → e ≡ fork_refusal (check_fork_vote g height (get_or votes 0 0 ∷ get_or votes 1 0 ∷ get_or votes 2 0 ∷ []) t)
       → e ≡ check_fork_votes g t height (take 3 votes)
   unfolding check_fork_votes fork_refusals headers
   boundary-one [] h e q = absurd (omega arith)
   boundary-one (a ∷ []) h e q = absurd (omega arith)
   boundary-one (a ∷ b ∷ []) h e q = absurd (omega arith)
-  boundary-one (a ∷ b ∷ c ∷ votes) h e q = q ∙ sym (first-none (check_fork_vote g height (a ∷ b ∷ c ∷ []) t))
+  boundary-one (a ∷ b ∷ c ∷ votes) h e q = q ∙ sym (first-none (fork_refusal (check_fork_vote g height (a ∷ b ∷ c ∷ []) t)))
 
   pub others-few : (votes : List ℕ) → length votes < 3 → 0 ≡ check_fork_votes g t height (drop 3 votes)
   unfolding check_fork_votes fork_refusals headers
@@ -154,7 +154,7 @@ module _ (s : Replay) (height : ℕ) (body votes : List ℕ) where
   later = after_boundary s height body votes (computed_of s.settings height s.table (entries s.tally) (boundary_votes votes) (proposed_update body))
 
   abbrev checked : Replayed
-  checked = gate s (check_body_as replay_reading body).refusal later
+  checked = gate s (check_body body).refusal later
 
   in_order : gate s (early_refusal s height votes) checked ≡ on_parts s height body votes
   unfolding on_parts early_refusal
@@ -168,11 +168,11 @@ module _ (s : Replay) (height : ℕ) (body votes : List ℕ) where
 
     module _ (z : e ≡ 0) where
       -- the body, by what was found in it
-      module _ (w : Walked) (is-w : WalkedIs replay_reading body w) where
+      module _ (w : Walked) (is-w : WalkedIs body w) where
         early : checked ≡ on_parts s height body votes
         early = gate-pass s e (early_refusal s height votes) checked is-e z ∙ in_order
 
-        refusal_is : w.parsed.refusal ≡ (check_body_as replay_reading body).refusal
+        refusal_is : w.parsed.refusal ≡ (check_body body).refusal
         refusal_is = ap (λ (x : Parsed). x.refusal) is-w.parsed
 
         pub parts-body : (w.parsed.refusal ≡ 0 → ⊥) → refuses s w.parsed.refusal ≡ on_parts s height body votes

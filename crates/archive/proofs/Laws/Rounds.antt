@@ -16,15 +16,17 @@ use Rattle.voting.specs.declared.table.Table.{Table}
 use Rattle.voting.specs.declared.tally.Tally.{Tally}
 use Rattle.voting.specs.declared.table.Fork.{Fork}
 use Rattle.voting.specs.declared.tally.Entry.{Entry}
+use Rattle.voting.specs.declared.fork.ForkVote.TheVariants.{Allowed, Refused as Refused'}
 use Rattle.voting.specs.declared.boundary.Boundary.{Boundary}
 use Rattle.voting.specs.Common.{eq_z}
 use Rattle.voting.specs.Settings.{voting_length, vote_epochs, activation_epochs, mainnet, settings_large}
 use Rattle.voting.specs.Table.{lookup, fork_entries}
 use Rattle.voting.specs.Header.{soft_fork_vote, check_header_votes, votes_for, AllLegal}
 use Rattle.voting.specs.Tally.{headers, no_tally, seeded, seeds, tally_votes_seeded, entry, entries, first_count, first_votes, counted_for}
-use Rattle.voting.specs.ForkCheck.{check_round, check_fork_vote}
+use Rattle.voting.specs.ForkCheck.{check_round, check_fork_vote, fork_refusal}
 use Rattle.voting.specs.ForkPart.{no_round, fork_refused, by_start, fork_part}
 use Rattle.voting.specs.Boundary.{boundary_of}
+use Rattle.voting.proofs.Laws.Fork.{allowed}
 use Rattle.voting.proofs.Laws.Header.{first-zero}
 use Rattle.voting.proofs.Laws.Tests.{both, neither}
 use Rattle.voting.proofs.Laws.Tally.{whole-threes}
@@ -70,26 +72,26 @@ unfolding headers_refusal
 legal [] e = tt
 legal (h ∷ hs) e = let q = first-zero (check_header_votes h) (headers_refusal hs) e in (q.0, legal hs q.1)
 
-vote-allowed : (g : VotingConfig) (height : ℕ) (h : List ℕ) (t : Table) → check_fork_vote g height h t ≡ 0 → votes_for soft_fork_vote h ≡ true
-    → check_round g height t.fork.start t.fork.votes ≡ 0
-unfolding check_fork_vote lookup
+vote-allowed : (g : VotingConfig) (height : ℕ) (h : List ℕ) (t : Table) → fork_refusal (check_fork_vote g height h t) ≡ 0 → votes_for soft_fork_vote h ≡ true
+    → check_round g height t.fork.start t.fork.votes ≡ Allowed
+unfolding check_fork_vote fork_refusal lookup
 vote-allowed g height h t e v = go (settings_large g) (votes_for soft_fork_vote h) v e
   where
-    go : (p q : Bool) → q ≡ true → cond p setting_large (cond q (check_round g height t.fork.start t.fork.votes) 0) ≡ 0
-        → check_round g height t.fork.start t.fork.votes ≡ 0
+    go : (p q : Bool) → q ≡ true → fork_refusal (cond p (Refused' setting_large) (cond q (check_round g height t.fork.start t.fork.votes) Allowed)) ≡ 0
+        → check_round g height t.fork.start t.fork.votes ≡ Allowed
     go true q i x = absurd (omega arith)
-    go false true i x = x
+    go false true i x = allowed g height t.fork.start t.fork.votes x
     go false false i x = absurd (true≢false (sym i))
 
 -- the boundary header, by itself
 boundary-allowed : (g : VotingConfig) (t : Table) (height : ℕ) (votes : List ℕ) → check_fork_votes g t height (take 3 votes) ≡ 0 → boundary_votes votes ≡ true
-    → check_round g height t.fork.start t.fork.votes ≡ 0
+    → check_round g height t.fork.start t.fork.votes ≡ Allowed
 unfolding check_fork_votes fork_refusals headers boundary_votes first_votes
 boundary-allowed g t height [] e v = absurd (true≢false (sym v))
 boundary-allowed g t height (a ∷ []) e v = absurd (true≢false (sym v))
 boundary-allowed g t height (a ∷ b ∷ []) e v = absurd (true≢false (sym v))
 boundary-allowed g t height (a ∷ b ∷ c ∷ votes) e v =
-    vote-allowed g height (a ∷ b ∷ c ∷ []) t (first-zero (check_fork_vote g height (a ∷ b ∷ c ∷ []) t) 0 e).0 v
+    vote-allowed g height (a ∷ b ∷ c ∷ []) t (first-zero (fork_refusal (check_fork_vote g height (a ∷ b ∷ c ∷ []) t)) 0 e).0 v
 
 -- the boundary that passes: its table is that of the boundary without an update's bytes
 module _ (g : VotingConfig) (height : ℕ) (t : Table) (tally : List Entry) (vote : Bool) (s : List ℕ) where
@@ -132,7 +134,7 @@ pub record Met (s : Replay) (height : ℕ) (votes : List ℕ) (u : Replay) : Typ
   pub height-is : height ≡ s.next
   pub top : height + voting_length s.settings ≤ 2 ^ 31
   pub all-legal : AllLegal (headers votes)
-  pub check : boundary_votes votes ≡ true → check_round s.settings height s.table.fork.start s.table.fork.votes ≡ 0
+  pub check : boundary_votes votes ≡ true → check_round s.settings height s.table.fork.start s.table.fork.votes ≡ Allowed
   pub disabled : Bool
   pub passes : (boundary_of s.settings height s.table (entries s.tally) (boundary_votes votes) disabled).refusal ≡ 0
   pub new-table : u.table ≡ (boundary_of s.settings height s.table (entries s.tally) (boundary_votes votes) disabled).table

@@ -1,6 +1,6 @@
 -- Rule ids and offsets, there and back.
 -- Assumes nothing.
-use Rattle.std.proofs.Common.{◌≡◌, ℕ, ◌+◌, ◌-◌, ◌%◌, ◌<◌, ℤ, pos, negsuc, sym, refl, ap, ◌∙◌, arith, w16, SFits}
+use Rattle.std.proofs.Common.{◌≡◌, ℕ, ◌+◌, ◌-◌, ◌%◌, ◌<◌, ◌≤◌, ℤ, pos, negsuc, sym, refl, ap, ◌∙◌, arith, w16, SFits, le-ltb}
 use mir.ValLaws.{to_z-Fits}
 use Rattle.codec.specs.Signed.{modulo, bits_of, signed_of, wrapped}
 use Rattle.codec.specs.Rule.{rule_of, offset_of}
@@ -17,6 +17,11 @@ offset-is z f p h e = omega (arith, bits_fit w16 z f, e, p) ∙ sym (offset-bits
 
 pub offset-fits : (z : ℤ) → SFits w16 z → offset_of z < 65536
 offset-fits z f = rw (offset-bits z f) (omega arith)
+
+-- from 1,000 to 32,767 the offset is the id less 1,000
+pub offset-plain : (n : ℕ) → 1000 ≤ n → n ≤ 32767 → offset_of (pos n) ≡ n - 1000
+unfolding offset_of bits_of modulo
+offset-plain n h k = rw (le-ltb n 1000 h) (omega arith)
 
 -- an id's offset stands for the id, and the offset of a rule is the offset that it was made of
 pub rule-back : (z : ℤ) → SFits w16 z → rule_of (offset_of z) ≡ z

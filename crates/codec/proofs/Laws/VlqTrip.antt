@@ -2,7 +2,6 @@
 -- Assumes nothing.
 use Rattle.std.proofs.Common.{◌≡◌, ℕ, zero, suc, ◌+◌, ◌-◌, ◌*◌, ◌/◌, ◌%◌, ◌^◌, ◌<◌, ◌≤◌, Bool, true, false, cond, ltb, List, [], ◌∷◌, ◌++◌, length, drop, refl, ap, subst, lt_of_lt_of_le, mod-eq_of_lt, pow-suc, arith, length-drop, pow_mono, ltb-false, ltb-true, le-ltb, lt-ltb}
 use native.Mathlib.Nat.{mod-le}
-use lib.Seq.{drop-append-le}
 use Rattle.codec.specs.Vlq.{Found, found, unreadable, continued, byte, number_of, low64, below, vlq_of, placed, vlq_at, shortest_of, vlq_bytes, Shortest}
 use Rattle.codec.specs.declared.vlq.Number.{Number}
 use Rattle.codec.specs.declared.vlq.Read.TheVariants.{Value}
@@ -146,34 +145,3 @@ read-inside width at s m e = go (vlq_of width (drop at s)) (sized-vlq width (dro
         let l : length (drop at s) ≡ length s - at = length-drop at s in
         record { value-fits = omega arith; after = omega arith; inside = omega arith }
     go unreadable z u e = absurd (let c : ◌≡◌ {A = ℕ} 0 1 = cc in omega arith)
-
--- a number that was read is read, too, where more bytes follow
-number_more : (k : ℕ) (s t : List ℕ) (v n : ℕ) → number_of k s ≡ found v n → number_of k (s ++ t) ≡ found v n
-unfolding number_of byte continued
-number_more zero s t v n e = absurd (let c : ◌≡◌ {A = ℕ} 0 1 = cc in omega arith)
-number_more (suc k) [] t v n e = absurd (let c : ◌≡◌ {A = ℕ} 0 1 = cc in omega arith)
-number_more (suc k) (b ∷ s) t v n e = go (ltb b 128) (number_of k s) refl (λ w m q. number_more k s t w m q) e
-  where
-    go : (last : Bool) (rest : Found) → number_of k s ≡ rest → ((w m : ℕ) → number_of k s ≡ found w m → number_of k (s ++ t) ≡ found w m)
-        → byte last b rest ≡ found v n → byte last b (number_of k (s ++ t)) ≡ found v n
-    go true rest q more e = e
-    go false (found w m) q more e = rw (more w m q) e
-    go false unreadable q more e = absurd (let c : ◌≡◌ {A = ℕ} 0 1 = cc in omega arith)
-
-vlq-more : (width : ℕ) (s t : List ℕ) (v n : ℕ) → vlq_of width s ≡ found v n → vlq_of width (s ++ t) ≡ found v n
-unfolding vlq_of below low64
-vlq-more width s t v n e = go (number_of 10 s) refl e
-  where
-    go : (g : Found) → number_of 10 s ≡ g → below (2 ^ width) (low64 g) ≡ found v n → below (2 ^ width) (low64 (number_of 10 (s ++ t))) ≡ found v n
-    go (found w m) q e = rw (number_more 10 s t w m q) e
-    go unreadable q e = absurd (let c : ◌≡◌ {A = ℕ} 0 1 = cc in omega arith)
-
-pub more_bytes : (width at : ℕ) (s t : List ℕ) (m : Number) → Value m ≡ vlq_at width s at → Value m ≡ vlq_at width (s ++ t) at
-unfolding vlq_at placed
-more_bytes width at s t m e =
-    let i = read-inside width at s m e in
-    rw (drop-append-le at s t (omega (arith, i.after, i.inside))) (go (vlq_of width (drop at s)) refl e)
-  where
-    go : (g : Found) → vlq_of width (drop at s) ≡ g → Value m ≡ placed at g → Value m ≡ placed at (vlq_of width (drop at s ++ t))
-    go (found v n) q e = rw (vlq-more width (drop at s) t v n q) e
-    go unreadable q e = absurd (let c : ◌≡◌ {A = ℕ} 0 1 = cc in omega arith)

@@ -2,7 +2,7 @@
 -- Assumes nothing.
 use mathlib.Core.Path.{◌≡◌, refl, ap, sym, ◌∙◌, subst, subst⁻¹}
 use mathlib.Core.Bool.{Bool, true, false, cond}
-use mathlib.Core.List.{List, [], ◌∷◌, flat_map}
+use mathlib.Core.List.{List, [], ◌∷◌, ◌++◌}
 use Prim.Native.Nat.{ℕ, zero, suc, ◌+◌, ◌-◌, ◌≤◌, ◌<◌}
 use native.Mathlib.Omega.{arith}
 use borrow.Author.Tests.{le-ltb, ltb-false, ne_eqb, eqb-true, eqb-false}
@@ -21,11 +21,13 @@ use Rattle.codec.proofs.Laws.VlqTrip.{read-inside, Inside}
 use Rattle.voting.specs.Common.{Each}
 use Rattle.extension.specs.declared.section.Section.{Section}
 use Rattle.extension.specs.declared.section.Parsed.{Parsed}
+use Rattle.extension.specs.declared.update.StatusAt.{StatusAt}
+use Rattle.extension.specs.declared.update.StatusAt.TheVariants.{HasStatus, NoStatus}
 use Rattle.extension.specs.declared.update.Update.{Update}
 use Rattle.extension.specs.declared.update.ParsedUpdate.{ParsedUpdate}
 use Rattle.extension.specs.Section.{Reading, got, bad, Listing, after, listing, items, closed, section, section_items, part, any}
 use Rattle.extension.specs.Mandatory.{mandatory_rule}
-use Rattle.extension.specs.Update.{Status, rule_from, read_rule, sized_from, status_from, read_status, count_in, items_from, no_update, refused_update, with_statuses, with_rules, update_of, rules_in, statuses_in}
+use Rattle.extension.specs.Update.{Status, placed_rule, rule_at, rule_reading, read_rule, placed_status, offset_then, status_at, status_reading, read_status, count_in, items_from, no_update, refused_update, with_statuses, with_rules, update_of, rules_in, statuses_in}
 use Rattle.extension.specs.Encode.{rules_bytes, status_bytes, statuses_bytes, encoded, status_list, sum, ids_of, codes_of, sizes_of, all_raw, Short, next_of, end_of, ShortRules, ShortStatuses, ShortUpdate, UpdateBack, UpdateAgain}
 use Rattle.extension.proofs.Laws.Parts.{part_length, part_join, part-all, part-cons}
 use Rattle.extension.proofs.Laws.Encode.{none-refused}
@@ -33,6 +35,14 @@ use Rattle.extension.proofs.Laws.Encode.{none-refused}
 -- First the bytes between positions
 part_none : (s : List ℕ) (at : ℕ) → part s at at ≡ []
 part_none s at = let e : at - at ≡ 0 = omega arith in rw e
+
+abbrev next-of : {A : Type 0} → Reading A → ℕ
+next-of (got a next) = next
+next-of (bad e) = 0
+
+abbrev joined : {A : Type 0} → (A → List ℕ) → List A → List ℕ
+joined bytes [] = []
+joined bytes (x ∷ xs) = bytes x ++ joined bytes xs
 
 -- items whose bytes stand where they were read: what a reader answers at a position, and then at the next
 module _ {A : Type 0} (s : List ℕ) (read : ℕ → Reading A) (bytes : A → List ℕ) (Fine : A → Type 0) where
@@ -42,7 +52,7 @@ module _ {A : Type 0} (s : List ℕ) (read : ℕ → Reading A) (bytes : A → L
 
   abbrev pub Chain : ℕ → ℕ → Type 0
   Chain zero at = Unit {0}
-  Chain (suc n) at = Stands at (read at) × Chain n (end_of (read at))
+  Chain (suc n) at = Stands at (read at) × Chain n (next-of (read at))
 
   module _ (n₀ b₀ : ℕ) where
     record AllRead (n at : ℕ) (l : Listing A) : Type 0 where
@@ -51,15 +61,15 @@ module _ {A : Type 0} (s : List ℕ) (read : ℕ → Reading A) (bytes : A → L
       many : length (items l) ≡ n
       least : at + n ≤ end
       within : end ≤ length s
-      bytes-are : part s at end ≡ flat_map bytes (items l)
+      bytes-are : part s at end ≡ joined bytes (items l)
       fine : Each Fine (items l)
 
     all_read : (n at : ℕ) → at ≤ length s → Chain n at → (closed n₀ b₀ (listing read n at)).refusal ≡ 0 → AllRead n at (listing read n at)
-    unfolding listing after closed items flat_map
+    unfolding listing after closed items
     all_read zero at h c e = record { end = at; is = refl; many = refl; least = omega arith; within = h; bytes-are = part_none s at; fine = tt }
     all_read (suc n) at h c e = go (read at) c e (λ k i d f. all_read n k i d f)
       where
-        go : (g : Reading A) → Stands at g × Chain n (end_of g) → (closed n₀ b₀ (after g (listing read n))).refusal ≡ 0
+        go : (g : Reading A) → Stands at g × Chain n (next-of g) → (closed n₀ b₀ (after g (listing read n))).refusal ≡ 0
             → ((k : ℕ) → k ≤ length s → Chain n k → (closed n₀ b₀ (listing read n k)).refusal ≡ 0 → AllRead n k (listing read n k)) → AllRead (suc n) at (after g (listing read n))
         go (got a next) c e more =
             let r = more next c.0.2 c.1 e in
@@ -75,12 +85,12 @@ module _ {A : Type 0} (s : List ℕ) (read : ℕ → Reading A) (bytes : A → L
         go (bad m) c e more = absurd (c.0 e)
 
 -- a reader whose refusals have numbers other than 0: what a section says that was read without a refusal
-abbrev pub Stops : {A : Type 0} → Reading A → Type 0
+abbrev Stops : {A : Type 0} → Reading A → Type 0
 Stops (got a next) = Unit {0}
 Stops (bad e) = e ≡ 0 → ⊥
 
 module _ {A : Type 0} (read : ℕ → Reading A) (stops : (at : ℕ) → Stops (read at)) where
-  pub ends : (n₀ b₀ n at : ℕ) → (closed n₀ b₀ (listing read n at)).refusal ≡ 0
+  ends : (n₀ b₀ n at : ℕ) → (closed n₀ b₀ (listing read n at)).refusal ≡ 0
       → closed n₀ b₀ (listing read n at) ≡ record { refusal = 0; section = section n₀ b₀ (closed n₀ b₀ (listing read n at)).section.end }
   unfolding listing after closed
   ends n₀ b₀ zero at e = refl
@@ -107,26 +117,27 @@ module _ {A : Type 0} (read : ℕ → Reading A) (stops : (at : ℕ) → Stops (
   items-read Unreadable e = absurd (omega arith)
 
 rule-stops : (s : List ℕ) (at : ℕ) → Stops (read_rule s at)
-unfolding read_rule rule_from
+unfolding read_rule rule_at placed_rule rule_reading
 rule-stops s at = go (vlq_at 16 s at)
   where
-    go : (x : Read) → Stops (rule_from x)
+    go : (x : Read) → Stops (rule_reading (placed_rule x))
     go (Value m) = tt
     go Unreadable = λ e. omega arith
 
 status-stops : (s : List ℕ) (at : ℕ) → Stops (read_status s at)
-unfolding read_status status_from sized_from
+unfolding read_status status_at offset_then placed_status status_reading
 status-stops s at = go (vlq_at 16 s at)
   where
-    cut : (b : Bool) (x : Status) (next : ℕ) → Stops (cond b (bad update_unreadable) (got x next))
-    cut true x next = λ e. omega arith
-    cut false x next = tt
+    cut : (rule : ℤ) (k : Number) (b : Bool) → Stops (status_reading s (cond b (NoStatus update_unreadable)
+        (HasStatus (record { rule = record { 0 = rule }; code = get_or s k.next 0; start = k.next + 1; end = k.next + 1 + k.value }))))
+    cut rule k true = λ e. omega arith
+    cut rule k false = tt
 
-    size : (rule : ℤ) (y : Read) → Stops (sized_from s rule y)
-    size rule (Value k) = cut (ltb (length s) (k.next + 1 + k.value)) _ _
+    size : (rule : ℤ) (y : Read) → Stops (status_reading s (placed_status s rule y))
+    size rule (Value k) = cut rule k (ltb (length s) (k.next + 1 + k.value))
     size rule Unreadable = λ e. omega arith
 
-    go : (x : Read) → Stops (status_from s x)
+    go : (x : Read) → Stops (status_reading s (offset_then s x))
     go (Value m) = size (rule_of m.value) (vlq_at 16 s m.next)
     go Unreadable = λ e. omega arith
 
@@ -154,14 +165,19 @@ abbrev Any : {A : Type 0} → A → Type 0
 Any x = Unit {0}
 
 rules-chain : (s : List ℕ) (n at : ℕ) → ShortRules n s at → Chain s (read_rule s) vlq_bytes Any n at
-unfolding read_rule rule_from
+unfolding read_rule rule_at placed_rule rule_reading
 rules-chain s zero at h = tt
 rules-chain s (suc n) at h = go (vlq_at 16 s at) refl h (λ k g. rules-chain s n k g)
   where
     go : (x : Read) → x ≡ vlq_at 16 s at → Short s at x × ShortRules n s (next_of x) → ((k : ℕ) → ShortRules n s k → Chain s (read_rule s) vlq_bytes Any n k)
-        → Stands s (read_rule s) vlq_bytes Any at (rule_from x) × Chain s (read_rule s) vlq_bytes Any n (end_of (rule_from x))
+        → Stands s (read_rule s) vlq_bytes Any at (rule_reading (placed_rule x)) × Chain s (read_rule s) vlq_bytes Any n (next-of (rule_reading (placed_rule x)))
     go (Value m) q h more = let i = read-inside 16 at s m q in ((h.0, i.after, i.inside, tt), more m.next h.1)
     go Unreadable q h more = ((λ e. omega arith), more 0 h.1)
+
+rules-joined : (rules : List ℕ) → joined vlq_bytes rules ≡ rules_bytes rules
+unfolding rules_bytes
+rules-joined [] = refl
+rules-joined (r ∷ rules) = ap (λ (t : List ℕ). vlq_bytes r ++ t) (rules-joined rules)
 
 -- statuses in shortest form too
 abbrev Fine : Status → Type 0
@@ -180,21 +196,19 @@ status-stands s at m k i j p q h =
     (sym (part_join s at k.next end (omega (arith, i.after, j.after)) (omega arith)))
 
 statuses-chain : (s : List ℕ) (n at : ℕ) → ShortStatuses n s at → Chain s (read_status s) status_bytes Fine n at
-unfolding read_status status_from sized_from
+unfolding read_status status_at offset_then placed_status status_reading
 statuses-chain s zero at h = tt
 statuses-chain s (suc n) at h = go (vlq_at 16 s at) refl h.0 h.1 h.2 (λ k g. statuses-chain s n k g)
   where
-    Next : Reading Status → Type 0
-    Next x = Stands s (read_status s) status_bytes Fine at x × Chain s (read_status s) status_bytes Fine n (end_of x)
-
-    read : (m k : Number) → Status
-    read m k = record { rule = rule_of m.value; code = get_or s k.next 0; raw = part s (k.next + 1) (k.next + 1 + k.value) }
+    Next : StatusAt → Type 0
+    Next x = Stands s (read_status s) status_bytes Fine at (status_reading s x) × Chain s (read_status s) status_bytes Fine n (next-of (status_reading s x))
 
     cut : (m k : Number) (b : Bool) → ltb (length s) (k.next + 1 + k.value) ≡ b → Inside 16 (length s) at m → Inside 16 (length s) m.next k
         → part s at m.next ≡ vlq_bytes m.value → part s m.next k.next ≡ vlq_bytes k.value
-        → ShortStatuses n s (end_of (cond b (bad update_unreadable) (got (read m k) (k.next + 1 + k.value))))
+        → ShortStatuses n s (end_of (cond b (NoStatus update_unreadable)
+        (HasStatus (record { rule = record { 0 = rule_of m.value }; code = get_or s k.next 0; start = k.next + 1; end = k.next + 1 + k.value }))))
         → ((a : ℕ) → ShortStatuses n s a → Chain s (read_status s) status_bytes Fine n a)
-        → Next (cond b (bad update_unreadable) (got (read m k) (k.next + 1 + k.value)))
+        → Next (cond b (NoStatus update_unreadable) (HasStatus (record { rule = record { 0 = rule_of m.value }; code = get_or s k.next 0; start = k.next + 1; end = k.next + 1 + k.value })))
     cut m k true t i j p q h more = ((λ e. omega arith), more 0 h)
     cut m k false t i j p q h more =
         let inside : k.next + 1 + k.value ≤ length s = ltb-false (length s) (k.next + 1 + k.value) t in (
@@ -208,26 +222,31 @@ statuses-chain s (suc n) at h = go (vlq_at 16 s at) refl h.0 h.1 h.2 (λ k g. st
         )
 
     size : (m : Number) (y : Read) → y ≡ vlq_at 16 s m.next → Inside 16 (length s) at m → part s at m.next ≡ vlq_bytes m.value → Short s m.next y
-        → ShortStatuses n s (end_of (sized_from s (rule_of m.value) y)) → ((a : ℕ) → ShortStatuses n s a → Chain s (read_status s) status_bytes Fine n a)
-        → Next (sized_from s (rule_of m.value) y)
+        → ShortStatuses n s (end_of (placed_status s (rule_of m.value) y)) → ((a : ℕ) → ShortStatuses n s a → Chain s (read_status s) status_bytes Fine n a)
+        → Next (placed_status s (rule_of m.value) y)
     size m (Value k) e i p q h more = cut m k (ltb (length s) (k.next + 1 + k.value)) refl i (read-inside 16 m.next s k e) p q h more
     size m Unreadable e i p q h more = ((λ e. omega arith), more 0 h)
 
-    go : (x : Read) → x ≡ vlq_at 16 s at → Short s at x → Short s (next_of x) (vlq_at 16 s (next_of x)) → ShortStatuses n s (end_of (status_from s x))
-        → ((a : ℕ) → ShortStatuses n s a → Chain s (read_status s) status_bytes Fine n a) → Next (status_from s x)
+    go : (x : Read) → x ≡ vlq_at 16 s at → Short s at x → Short s (next_of x) (vlq_at 16 s (next_of x)) → ShortStatuses n s (end_of (offset_then s x))
+        → ((a : ℕ) → ShortStatuses n s a → Chain s (read_status s) status_bytes Fine n a) → Next (offset_then s x)
     go (Value m) e p q h more = size m (vlq_at 16 s m.next) refl (read-inside 16 at s m e) p q h more
     go Unreadable e p q h more = ((λ e. omega arith), more 0 h)
 
+statuses-joined : (xs : List Status) → joined status_bytes xs ≡ statuses_bytes xs
+unfolding statuses_bytes
+statuses-joined [] = refl
+statuses-joined (x ∷ xs) = ap (λ (t : List ℕ). status_bytes x ++ t) (statuses-joined xs)
+
 -- statuses taken apart and put together again
 taken-apart : (xs : List Status) → (length (ids_of xs) ≡ length xs) × (length (codes_of xs) ≡ length xs) × (length (sizes_of xs) ≡ length xs) × (sum (sizes_of xs) ≡ length (all_raw xs))
-unfolding ids_of codes_of sizes_of all_raw flat_map sum
+unfolding ids_of codes_of sizes_of all_raw sum
 taken-apart [] = (refl, refl, refl, refl)
 taken-apart (x ∷ xs) =
     let t = taken-apart xs in
     (ap suc t.0, ap suc t.1, ap suc t.2, ap (λ (n : ℕ). length x.raw + n) t.3 ∙ sym (length-append x.raw (all_raw xs)))
 
 put-together : (xs : List Status) → status_list (ids_of xs) (codes_of xs) (sizes_of xs) (all_raw xs) ≡ xs
-unfolding ids_of codes_of sizes_of all_raw flat_map status_list
+unfolding ids_of codes_of sizes_of all_raw status_list
 put-together [] = refl
 put-together (x ∷ xs) = rw (take-append_seam x.raw (all_raw xs), drop-append_seam x.raw (all_raw xs)) (ap (λ (ys : List Status). x ∷ ys) (put-together xs))
 
@@ -278,12 +297,16 @@ module _ (s : List ℕ) (m₁ m₂ : Number) (end₁ end₂ : ℕ) where
     many₂ = r₂.many
 
     bytes₁ : part s m₁.next end₁ ≡ rules_bytes (rules_in s apart)
-    unfolding rules_in section_items rules_bytes
-    bytes₁ = ap (part s m₁.next) (sym end-is₁) ∙ r₁.bytes-are
+    unfolding rules_in section_items
+    bytes₁ =
+        let l = items (listing (read_rule s) n₁ m₁.next) in
+        ap (part s m₁.next) (sym end-is₁) ∙ r₁.bytes-are ∙ rules-joined l
 
     bytes₂ : part s m₂.next end₂ ≡ statuses_bytes (statuses_in s apart)
-    unfolding statuses_in section_items statuses_bytes
-    bytes₂ = ap (part s m₂.next) (sym end-is₂) ∙ r₂.bytes-are
+    unfolding statuses_in section_items
+    bytes₂ =
+        let l = items (listing (read_status s) n₂ m₂.next) in
+        ap (part s m₂.next) (sym end-is₂) ∙ r₂.bytes-are ∙ statuses-joined l
 
     fine₂ : Each Fine (statuses_in s apart)
     unfolding statuses_in section_items

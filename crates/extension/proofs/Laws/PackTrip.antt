@@ -26,19 +26,18 @@ use Rattle.voting.specs.declared.table.Value.TheVariants.{Absent, Number}
 use Rattle.voting.specs.contracts.table.Slot as slots
 use Rattle.voting.proofs.Laws.Tests.{by-test}
 use Rattle.extension.specs.declared.section.Parsed.{Parsed}
-use Rattle.extension.specs.declared.body.Trailing.TheVariants.{Refused, Ignored}
 use Rattle.extension.specs.declared.parameters.ParameterMap.{ParameterMap}
 use Rattle.extension.specs.Section.{got, bad, Listing, done, item, listing, items, refusal_of, section, closed, part, any}
-use Rattle.extension.specs.Body.{Field, read_field, extension_of, extension_as, header_id, Readings}
+use Rattle.extension.specs.Body.{Field, field_at, field_reading, read_field, extension_of, header_id}
 use Rattle.extension.specs.Parameters.{entry_of}
 use Rattle.extension.specs.Pack.{wire_list, wire_fields, long_value, pack_refusal, packed, BodyBack, BodyAgain}
 use Rattle.extension.proofs.Laws.Section.{listing_none, listing-stop, listing-item}
-use Rattle.extension.proofs.Laws.Body.{Opened, opened, strict-read, extension-readings}
+use Rattle.extension.proofs.Laws.Body.{Opened, opened}
 use Rattle.extension.proofs.Laws.Pack.{size_at, field_there, wire-here, value-length, wire-none, wire-end, wire-item}
 
 -- a field that a body's reader takes
 pub field-here : (s : List ℕ) (at : ℕ) → at + 3 + size_at s at ≤ length s → size_at s at ≤ 64 → read_field s at ≡ got (field_there s at) (at + 3 + size_at s at)
-unfolding read_field
+unfolding read_field field_reading field_at
 field-here s at i m =
     let h : at + 3 ≤ length s = omega arith in
     rw (le-ltb (length s) (at + 3) h, le-ltb 64 (size_at s at) m, le-ltb (length s) (at + 3 + size_at s at) i)
@@ -70,8 +69,8 @@ unfolding pack_refusal
 fine l fs e h a = rw (e.0, le-ltb 65536 (length fs) h, a) e.1
 
 -- A body that was read, and packed again. What a body's reader may meet at a position.
-pub by_field : {P : Type 0} (s : List ℕ) (at : ℕ) → ((e : ℕ) → (e ≡ 0 → ⊥) → read_field s at ≡ bad e → P) → (at + 3 + size_at s at ≤ length s → size_at s at ≤ 64 → P) → P
-unfolding read_field
+by_field : {P : Type 0} (s : List ℕ) (at : ℕ) → ((e : ℕ) → (e ≡ 0 → ⊥) → read_field s at ≡ bad e → P) → (at + 3 + size_at s at ≤ length s → size_at s at ≤ 64 → P) → P
+unfolding read_field field_reading field_at
 by_field s at f g =
     by-test (ltb (length s) (at + 3)) (λ p. f field_header_cut (λ e. omega arith) (rw p))
     (λ p. by-test (ltb 64 (size_at s at)) (λ q. f value_long (λ e. omega arith) (rw (p, q)))
@@ -178,25 +177,16 @@ module _ (body : List ℕ) (o : Opened body) where
           let d : 32 + (field_start - 32) ≡ field_start = omega (arith, inside.after) in
           rw (z, k.as_many, ← c', ← take-add 32 (field_start - 32) body, d) (take-append-drop field_start body)
 
-read_again : (body : List ℕ) → (extension_of body).refusal ≡ 0 → part body 32 (extension_of body).section.begin ≡ vlq_bytes (extension_of body).section.count
-    → (extension_of body).section.end ≡ length body → BodyBack body (extension_of body).section
-read_again body z c e =
+pub body-again : (body : List ℕ) → BodyAgain body (extension_of body).section
+body-again body z c e =
     let o = opened body z in
     again body o
     (subst⁻¹ (λ (x : Parsed). Back body o.number.next o.number.value o.number.next o.number.value 0 x (wire_fields (drop o.number.next body))) o.is
     (closes body o (subst (λ (x : Parsed). x.refusal ≡ 0) o.is z) (subst (λ (x : Parsed). x.section.end ≡ length body) o.is e))) z c e
 
--- of what a strict reader answered
-strict-again : (body : List ℕ) → BodyAgain body (extension_as Refused body).section
-strict-again body z c =
-    let s = strict-read body z in
-    subst⁻¹ (λ (y : Parsed). BodyBack body y.section) s.same
-    (read_again body s.read (subst (λ (y : Parsed). part body 32 y.section.begin ≡ vlq_bytes y.section.count) s.same c) s.ends)
-
-pub parsed-again : (body : List ℕ) (x : Parsed) → x ≡ extension_as Refused body
-    → (x ≡ extension_as Refused body) × (BodyAgain body x.section × Readings x (extension_as Ignored body) (length body))
-parsed-again body x e =
-    (e, (subst⁻¹ (λ (y : Parsed). BodyAgain body y.section) e (strict-again body), subst⁻¹ (λ (y : Parsed). Readings y (extension_as Ignored body) (length body)) e (extension-readings body)))
+-- the same of what a body's reader answered
+pub parsed-again : (body : List ℕ) (x : Parsed) → x ≡ extension_of body → (x ≡ extension_of body) × BodyAgain body x.section
+parsed-again body x e = (e, subst⁻¹ (λ (y : Parsed). BodyAgain body y.section) e (body-again body))
 
 -- a number that a signed 32-bit cell can hold
 abbrev pub Held : Value → Type 0

@@ -14,11 +14,10 @@ use Rattle.voting.specs.Table.{lookup}
 use Rattle.voting.specs.declared.table.Value.{Value}
 use Rattle.voting.specs.declared.table.Table.{Table}
 use Rattle.extension.specs.declared.section.Parsed.{Parsed}
-use Rattle.extension.specs.declared.body.Trailing.TheVariants.{Ignored}
 use Rattle.extension.specs.declared.parameters.ParameterMap.{ParameterMap}
 use Rattle.extension.specs.declared.parameters.Matched.{Matched}
 use Rattle.extension.specs.Section.{section_items}
-use Rattle.extension.specs.Body.{Field, read_field, parameter_key, check_body_as}
+use Rattle.extension.specs.Body.{Field, read_field, parameter_key, check_body}
 use Rattle.extension.specs.Parameters.{no_parameters, entry_of, store, number_in, taken, parameters_in, read_parameters, parameters_of, agrees, table_ids, first_differing, matched, check_parameters}
 
 -- one field, by its tests
@@ -50,7 +49,7 @@ module _ (fs : List Field) (m : ParameterMap) where
   unfolding parameters_in
   parameters-next f rest n e q = rw (e, q)
 
-pub parameters-is : (s : List ℕ) (x : Parsed) → x ≡ check_body_as Ignored s → (m : ParameterMap) → m ≡ parameters_in (section_items (read_field s) x.section) no_parameters
+pub parameters-is : (s : List ℕ) (x : Parsed) → x ≡ check_body s → (m : ParameterMap) → m ≡ parameters_in (section_items (read_field s) x.section) no_parameters
     → record { refusal = x.refusal; map = m } ≡ parameters_of s
 unfolding parameters_of read_parameters
 parameters-is s x e m q = rw q (ap (read_parameters s) e)

@@ -1,6 +1,6 @@
 -- No test of this crate but the match answers 15.
 -- Assumes nothing.
-use mathlib.Core.Path.{◌≡◌, refl, subst}
+use mathlib.Core.Path.{◌≡◌, refl}
 use mathlib.Core.Bool.{Bool, true, false, cond}
 use mathlib.Core.List.{List}
 use Prim.Native.Nat.{ℕ, zero, suc, ◌+◌}
@@ -12,22 +12,25 @@ use Rattle.codec.specs.Rule.{rule_of}
 use Rattle.codec.specs.Vlq.{vlq_at}
 use Rattle.codec.specs.declared.vlq.Read.{Read}
 use Rattle.codec.specs.declared.vlq.Read.TheVariants.{Value, Unreadable}
+use Rattle.extension.proofs.Laws.Body.{check-body-by}
 use Rattle.voting.specs.ForkPart.{no_round}
 use Rattle.voting.specs.Boundary.{boundary_of}
 use Rattle.voting.specs.declared.settings.VotingConfig.{VotingConfig}
 use Rattle.voting.specs.declared.table.Table.{Table}
 use Rattle.voting.specs.declared.tally.Entry.{Entry}
 use Rattle.voting.proofs.Laws.Refusals.{Other, boundary-other}
+use Rattle.extension.specs.declared.body.FieldPlace.{FieldPlace}
+use Rattle.extension.specs.declared.body.FieldAt.TheVariants.{HasField, NoField}
 use Rattle.extension.specs.declared.section.Parsed.{Parsed}
-use Rattle.extension.specs.declared.body.Trailing.{Trailing}
-use Rattle.extension.specs.declared.body.Trailing.TheVariants.{Refused, Ignored}
+use Rattle.extension.specs.declared.update.StatusPlace.{StatusPlace}
+use Rattle.extension.specs.declared.update.StatusAt.TheVariants.{HasStatus, NoStatus}
+use Rattle.extension.specs.declared.update.ParsedUpdate.{ParsedUpdate}
 use Rattle.extension.specs.Section.{Reading, got, bad, after, listing, closed, section_items, refused_section, any}
-use Rattle.extension.specs.Body.{Field, read_field, fields_from, extension_of, leftover_refusal, judged_by, extension_as, fields_of, wrong_parameter, check_body_as}
+use Rattle.extension.specs.Body.{Field, field_at, field_reading, read_field, fields_from, extension_of, fields_of, wrong_parameter, check_body}
 use Rattle.extension.specs.Mandatory.{mandatory_rule}
-use Rattle.extension.specs.Update.{Status, rule_from, read_rule, sized_from, status_from, read_status, count_in, items_from, no_update, refused_update, with_statuses, with_rules, update_of, disables}
+use Rattle.extension.specs.Update.{Status, placed_rule, rule_at, rule_reading, read_rule, placed_status, offset_then, status_at, status_reading, read_status, count_in, items_from, no_update, refused_update, with_statuses, with_rules, update_of, disables}
 use Rattle.extension.specs.Boundary.{activates, with_update, computed_of}
 use Rattle.extension.proofs.Laws.Body.{check-body-by}
-use Rattle.voting.proofs.Laws.Tests.{by-test, gate-by}
 
 -- a list of items, by the refusals of one
 abbrev Unlike : {A : Type 0} → Reading A → Type 0
@@ -45,71 +48,55 @@ listing-other read h (suc left) n begin at = go (listing-other read h left n beg
 
 -- a body: 22, 1 to 6
 field-other : (s : List ℕ) (at : ℕ) → Unlike (read_field s at)
-unfolding read_field
-field-other s at = go (ltb (length s) (at + 3)) (ltb 64 (get_or s (at + 2) 0)) (ltb (length s) (at + 3 + get_or s (at + 2) 0)) _ _
+unfolding read_field field_reading field_at
+field-other s at = go (ltb (length s) (at + 3)) (ltb 64 (get_or s (at + 2) 0)) (ltb (length s) (at + 3 + get_or s (at + 2) 0)) _
   where
-    go : (a b c : Bool) (f : Field) (next : ℕ) → Unlike (cond a (bad field_header_cut) (cond b (bad value_long) (cond c (bad value_cut) (got f next))))
-    go true b c f next = refl
-    go false true c f next = refl
-    go false false true f next = refl
-    go false false false f next = tt
+    go : (a b c : Bool) (f : FieldPlace) → Unlike (field_reading s (cond a (NoField field_header_cut) (cond b (NoField value_long) (cond c (NoField value_cut) (HasField f)))))
+    go true b c f = refl
+    go false true c f = refl
+    go false false true f = refl
+    go false false false f = tt
 
 fields-other : (body : List ℕ) (r : Read) → Other (fields_from body r).refusal
 unfolding fields_from
 fields-other body Unreadable = refl
 fields-other body (Value m) = listing-other (read_field body) (field-other body) m.value m.value m.next m.next
 
-extension-other : (body : List ℕ) → Other (extension_of body).refusal
+pub body-other : (body : List ℕ) → Other (check_body body).refusal
 unfolding extension_of
-extension-other body = go (ltb 65536 (length body)) (ltb (length body) 32)
+body-other body = rw (check-body-by body) (go (any wrong_parameter (fields_of body)) (ltb 65536 (length body)) (ltb (length body) 32))
   where
-    go : (b c : Bool) → Other (cond b (refused_section input_long) (cond c (refused_section body_short) (fields_from body (vlq_at 32 body 32)))).refusal
-    go true c = refl
-    go false true = refl
-    go false false = fields-other body (vlq_at 32 body 32)
-
-judged-other : (trailing : Trailing) (size : ℕ) (x : Parsed) → Other x.refusal → Other (judged_by trailing size x).refusal
-unfolding judged_by leftover_refusal
-judged-other trailing size x p =
-    gate-by refused_section (λ y. Other y.refusal) x.refusal _ (λ k e. subst Other e p)
-    (gate-by refused_section (λ y. Other y.refusal) (leftover_refusal trailing x.section.end size) x (λ k e. subst Other e (left trailing)) p)
-  where
-    left : (t : Trailing) → Other (leftover_refusal t x.section.end size)
-    left Refused = by-test (ltb x.section.end size) (λ h. rw h refl) (λ h. rw h refl)
-    left Ignored = refl
-
-pub body-other : (trailing : Trailing) (body : List ℕ) → Other (check_body_as trailing body).refusal
-unfolding extension_as
-body-other trailing body = rw (check-body-by trailing body) (go (any wrong_parameter (fields_of body)))
-  where
-    go : (a : Bool) → Other (cond a (refused_section parameter_size) (extension_as trailing body)).refusal
-    go true = refl
-    go false = judged-other trailing (length body) (extension_of body) (extension-other body)
+    go : (a b c : Bool)
+        → Other (cond a (refused_section parameter_size) (cond b (refused_section input_long) (cond c (refused_section body_short) (fields_from body (vlq_at 32 body 32))))).refusal
+    go true b c = refl
+    go false true c = refl
+    go false false true = refl
+    go false false false = fields-other body (vlq_at 32 body 32)
 
 -- an update: 22, 7 and 8
 rule-other : (s : List ℕ) (at : ℕ) → Unlike (read_rule s at)
-unfolding read_rule rule_from
+unfolding read_rule rule_reading rule_at placed_rule
 rule-other s at = go (vlq_at 16 s at)
   where
-    go : (r : Read) → Unlike (rule_from r)
+    go : (r : Read) → Unlike (rule_reading (placed_rule r))
     go Unreadable = refl
     go (Value m) = tt
 
 status-other : (s : List ℕ) (at : ℕ) → Unlike (read_status s at)
-unfolding read_status status_from sized_from
+unfolding read_status status_reading status_at offset_then placed_status
 status-other s at = go (vlq_at 16 s at)
   where
-    whole : (a : Bool) (x : Status) (next : ℕ) → Unlike (cond a (bad update_unreadable) (got x next))
-    whole true x next = refl
-    whole false x next = tt
+    whole : (a : Bool) (p : StatusPlace) → Unlike (status_reading s (cond a (NoStatus update_unreadable) (HasStatus p)))
+    whole true p = refl
+    whole false p = tt
 
-    sized : (rule : ℤ) (r : Read) → Unlike (sized_from s rule r)
-    sized rule Unreadable = refl
-    sized rule (Value m) = whole (ltb (length s) (m.next + 1 + m.value)) _ _
+    placed : (rule : ℤ) (r : Read) → Unlike (status_reading s (placed_status s rule r))
+    placed rule Unreadable = refl
+    placed rule (Value m) = whole (ltb (length s) (m.next + 1 + m.value)) _
 
-    go : (r : Read) → Unlike (status_from s r)
+    go : (r : Read) → Unlike (status_reading s (offset_then s r))
     go Unreadable = refl
-    go (Value m) = sized (rule_of m.value) (vlq_at 16 s m.next)
+    go (Value m) = placed (rule_of m.value) (vlq_at 16 s m.next)
 
 items-other : {A : Type 0} (read : ℕ → Reading A) → ((at : ℕ) → Unlike (read at)) → (r : Read) → Other (items_from read r).refusal
 unfolding items_from

@@ -2,7 +2,7 @@
 -- Assumes nothing.
 use mathlib.Core.Path.{◌≡◌, refl, sym, ap, ◌∙◌, subst}
 use mathlib.Core.Bool.{Bool, true, false, cond, ◌||◌}
-use mathlib.Core.List.{List, []}
+use mathlib.Core.List.{List, [], ◌∷◌}
 use Prim.Native.Nat.{ℕ, ◌+◌, ◌-◌, ◌≤◌, ◌<◌}
 use native.Mathlib.Omega.{arith}
 use borrow.Author.Tests.{lt-ltb, le-ltb, ltb-false, eq-eqb, ne_eqb}
@@ -19,16 +19,13 @@ use Rattle.codec.specs.declared.vlq.Read.TheVariants.{Value, Unreadable}
 use Rattle.extension.specs.declared.section.Section.{Section}
 use Rattle.extension.specs.declared.section.Parsed.{Parsed}
 use Rattle.extension.specs.declared.update.RulePlace.{RulePlace}
-use Rattle.extension.specs.declared.update.RuleAt.{RuleAt}
 use Rattle.extension.specs.declared.update.RuleAt.TheVariants.{HasRule, NoRule}
 use Rattle.extension.specs.declared.update.StatusPlace.{StatusPlace}
-use Rattle.extension.specs.declared.update.StatusAt.{StatusAt}
 use Rattle.extension.specs.declared.update.StatusAt.TheVariants.{HasStatus, NoStatus}
-use Rattle.extension.specs.Section.{Reading, got, bad, bytes_in, Listing, done, item, listing, items, section, closed, section_items, refused_section, part, any}
+use Rattle.extension.specs.Section.{Reading, got, bad, Listing, done, item, listing, items, section, closed, section_items, refused_section, part, any}
 use Rattle.extension.specs.Mandatory.{mandatory_rule}
-use Rattle.extension.specs.Update.{rule_from, read_rule, rule_placed, rule_reading, Status, sized_from, status_from, read_status, status_placed, status_reading, update_rule, update_status, status_raw, count_in, items_from, no_update, refused_update, with_statuses, with_rules, update_of, rules_in, disables, proposed_of}
-use Rattle.extension.proofs.Laws.Section.{no_items}
-use Rattle.extension.proofs.Laws.Parts.{part_length}
+use Rattle.extension.specs.Update.{placed_rule, rule_at, rule_reading, read_rule, Status, placed_status, offset_then, status_at, status_reading, read_status, update_rule, update_status, raw_of, status_raw, count_in, items_from, no_update, refused_update, with_statuses, with_rules, update_of, rules_in, disables, proposed_of}
+use Rattle.extension.proofs.Laws.Section.{listing-stop, listing-item, items-stop, items-item, no_items}
 use Rattle.voting.proofs.Laws.Tests.{by-test}
 use Rattle.extension.specs.declared.update.ParsedUpdate.{ParsedUpdate}
 use Rattle.extension.specs.declared.update.Proposed.{Proposed}
@@ -36,148 +33,122 @@ use Rattle.extension.specs.declared.update.Update.{Update}
 use Rattle.extension.specs.declared.update.Rules.{Rules}
 use Rattle.extension.specs.Rules.{RulesAre}
 
--- an answer says what was read
-rule-says : (r : Reading ℕ) → rule_reading (rule_placed r) ≡ r
-unfolding rule_placed rule_reading
-rule-says (got id next) = refl
-rule-says (bad e) = refl
-
 -- the rule at a position
 module _ (s : List ℕ) (at : ℕ) where
-  pub rule-unreadable : Unreadable ≡ vlq_at 16 s at → NoRule update_unreadable ≡ rule_placed (read_rule s at)
-  unfolding read_rule rule_from rule_placed
+  pub rule-unreadable : Unreadable ≡ vlq_at 16 s at → NoRule update_unreadable ≡ rule_at s at
+  unfolding rule_at placed_rule
   rule-unreadable e = rw (← e)
 
-  pub rule-here : (m : Number) → Value m ≡ vlq_at 16 s at → HasRule (record { id = m.value; next = m.next }) ≡ rule_placed (read_rule s at)
-  unfolding read_rule rule_from rule_placed
+  pub rule-here : (m : Number) → Value m ≡ vlq_at 16 s at → HasRule (record { id = m.value; next = m.next }) ≡ rule_at s at
+  unfolding rule_at placed_rule
   rule-here m e = rw (← e)
 
-  pub rule-read : (x : RulePlace) → HasRule x ≡ rule_placed (read_rule s at) → read_rule s at ≡ got x.id x.next
-  unfolding rule_reading
-  rule-read x e = sym (ap rule_reading e ∙ rule-says (read_rule s at))
+  pub rule-read : (x : RulePlace) → HasRule x ≡ rule_at s at → read_rule s at ≡ got x.id x.next
+  unfolding read_rule rule_reading
+  rule-read x e = rw (← e)
 
-  pub rule-unread : (e : ℕ) → NoRule e ≡ rule_placed (read_rule s at) → read_rule s at ≡ bad e
-  unfolding rule_reading
-  rule-unread e q = sym (ap rule_reading q ∙ rule-says (read_rule s at))
+  pub rule-unread : (e : ℕ) → NoRule e ≡ rule_at s at → read_rule s at ≡ bad e
+  unfolding read_rule rule_reading
+  rule-unread e q = rw (← q)
 
-  pub rule-long : 65536 < length s → NoRule input_long ≡ rule_placed (update_rule s at)
-  unfolding update_rule rule_placed
+  -- the rules that are left, by the one read here
+  module _ (n : ℕ) (h : 0 < n) where
+    pub rule-listed : (x : RulePlace) → HasRule x ≡ rule_at s at → items (listing (read_rule s) n at) ≡ x.id ∷ items (listing (read_rule s) (n - 1) x.next)
+    rule-listed x e = items-item _ _ _ (listing-item (read_rule s) n at h x.id x.next (rule-read x e))
+
+    pub rule-ends : (e : ℕ) → NoRule e ≡ rule_at s at → items (listing (read_rule s) n at) ≡ []
+    rule-ends e q = items-stop _ _ (listing-stop (read_rule s) n at h e (rule-unread e q))
+
+  pub rule-long : 65536 < length s → NoRule input_long ≡ update_rule s at
+  unfolding update_rule
   rule-long h = rw (lt-ltb _ _ h)
 
-  pub rule-short : length s ≤ 65536 → rule_placed (read_rule s at) ≡ rule_placed (update_rule s at)
+  pub rule-short : length s ≤ 65536 → rule_at s at ≡ update_rule s at
   unfolding update_rule
   rule-short h = rw (le-ltb _ _ h)
 
-  pub rule_told : (r : RuleAt) → r ≡ rule_placed (update_rule s at) → (r ≡ rule_placed (update_rule s at)) × (rule_reading r ≡ update_rule s at)
-  rule_told r e = (e, ap rule_reading e ∙ rule-says (update_rule s at))
-
 -- the status at a position, after its offset
 module _ (s : List ℕ) (rule : RuleId) (at : ℕ) where
-  pub size-unreadable : Unreadable ≡ vlq_at 16 s at → NoStatus update_unreadable ≡ status_placed (sized_from s rule.0 (vlq_at 16 s at))
-  unfolding sized_from status_placed
+  pub size-unreadable : Unreadable ≡ vlq_at 16 s at → NoStatus update_unreadable ≡ placed_status s rule.0 (vlq_at 16 s at)
+  unfolding placed_status
   size-unreadable e = rw (← e)
 
   module _ (m : Number) (e : Value m ≡ vlq_at 16 s at) where
-    pub raw-cut : length s < m.next + 1 + m.value → NoStatus update_unreadable ≡ status_placed (sized_from s rule.0 (vlq_at 16 s at))
-    unfolding sized_from status_placed
+    pub raw-cut : length s < m.next + 1 + m.value → NoStatus update_unreadable ≡ placed_status s rule.0 (vlq_at 16 s at)
+    unfolding placed_status
     raw-cut h = rw (← e, lt-ltb _ _ h)
 
     pub raw-here : m.next + 1 + m.value ≤ length s
-        → HasStatus (record { rule = rule; code = get_or s m.next 0; start = m.next + 1; end = m.next + 1 + m.value }) ≡ status_placed (sized_from s rule.0 (vlq_at 16 s at))
-    unfolding sized_from status_placed
-    raw-here h =
-        let l : m.next + 1 + m.value - length (part s (m.next + 1) (m.next + 1 + m.value)) ≡ m.next + 1 = omega (arith, part_length s (m.next + 1) (m.next + 1 + m.value) h) in
-        rw (← e, le-ltb _ _ h, l)
-
--- what was read of a status ends inside, and its raw bytes stand before that end
-abbrev Whole : List ℕ → Reading Status → Type 0
-Whole s (got x next) = (next ≤ length s) × (length x.raw ≤ next) × (part s (next - length x.raw) next ≡ x.raw)
-Whole s (bad e) = Unit {0}
-
-sized-whole : (s : List ℕ) (rule : ℤ) (r : Read) → Whole s (sized_from s rule r)
-unfolding sized_from
-sized-whole s rule Unreadable = tt
-sized-whole s rule (Value m) = go (ltb (length s) (m.next + 1 + m.value)) refl
-  where
-    start : ℕ
-    start = m.next + 1
-
-    go : (p : Bool) → ltb (length s) (start + m.value) ≡ p
-        → Whole s (cond p (bad update_unreadable) (got (record { rule = rule; code = get_or s m.next 0; raw = part s start (start + m.value) }) (start + m.value)))
-    go true h = tt
-    go false h =
-        let inside : start + m.value ≤ length s = ltb-false (length s) (start + m.value) h in
-        let l = part_length s start (start + m.value) inside in
-        let begins : start + m.value - length (part s start (start + m.value)) ≡ start = omega (arith, l) in
-        (inside, omega (arith, l), ap (λ (a : ℕ). part s a (start + m.value)) begins)
-
-read_whole : (s : List ℕ) (at : ℕ) → Whole s (read_status s at)
-unfolding read_status status_from
-read_whole s at = go (vlq_at 16 s at)
-  where
-    go : (r : Read) → Whole s (status_from s r)
-    go Unreadable = tt
-    go (Value m) = sized-whole s (rule_of m.value) (vlq_at 16 s m.next)
-
-update-whole : (s : List ℕ) (at : ℕ) → Whole s (update_status s at)
-unfolding update_status
-update-whole s at = by-test (ltb 65536 (length s)) (λ t. rw t tt) (λ t. rw t (read_whole s at))
-
-status-says : (s : List ℕ) (r : Reading Status) → Whole s r → status_reading s (status_placed r) ≡ r
-unfolding status_placed status_reading
-status-says s (got x next) w = rw w.2
-status-says s (bad e) w = refl
+        → HasStatus (record { rule = rule; code = get_or s m.next 0; start = m.next + 1; end = m.next + 1 + m.value }) ≡ placed_status s rule.0 (vlq_at 16 s at)
+    unfolding placed_status
+    raw-here h = rw (← e, le-ltb _ _ h)
 
 abbrev pub status_in : List ℕ → StatusPlace → Status
 status_in s x = record { rule = x.rule.0; code = x.code; raw = part s x.start x.end }
 
 module _ (s : List ℕ) (at : ℕ) where
-  pub offset-unreadable : Unreadable ≡ vlq_at 16 s at → NoStatus update_unreadable ≡ status_placed (read_status s at)
-  unfolding read_status status_from status_placed
+  pub offset-unreadable : Unreadable ≡ vlq_at 16 s at → NoStatus update_unreadable ≡ status_at s at
+  unfolding status_at offset_then
   offset-unreadable e = rw (← e)
 
-  pub offset-here : (m : Number) → Value m ≡ vlq_at 16 s at → (rule : ℤ) → rule ≡ rule_of m.value → status_placed (sized_from s rule (vlq_at 16 s m.next)) ≡ status_placed (read_status s at)
-  unfolding read_status status_from
+  pub offset-here : (m : Number) → Value m ≡ vlq_at 16 s at → (rule : ℤ) → rule ≡ rule_of m.value → placed_status s rule (vlq_at 16 s m.next) ≡ status_at s at
+  unfolding status_at offset_then
   offset-here m e rule q = rw (← e, q)
 
-  pub status-read : (x : StatusPlace) → HasStatus x ≡ status_placed (read_status s at) → read_status s at ≡ got (status_in s x) x.end
-  unfolding status_reading
-  status-read x e = sym (ap (status_reading s) e ∙ status-says s (read_status s at) (read_whole s at))
+  pub status-read : (x : StatusPlace) → HasStatus x ≡ status_at s at → read_status s at ≡ got (status_in s x) x.end
+  unfolding read_status status_reading
+  status-read x e = rw (← e)
 
-  pub status-unread : (e : ℕ) → NoStatus e ≡ status_placed (read_status s at) → read_status s at ≡ bad e
-  unfolding status_reading
-  status-unread e q = sym (ap (status_reading s) q ∙ status-says s (read_status s at) (read_whole s at))
+  pub status-unread : (e : ℕ) → NoStatus e ≡ status_at s at → read_status s at ≡ bad e
+  unfolding read_status status_reading
+  status-unread e q = rw (← q)
 
-  pub status-long : 65536 < length s → NoStatus input_long ≡ status_placed (update_status s at)
-  unfolding update_status status_placed
+  pub status-long : 65536 < length s → NoStatus input_long ≡ update_status s at
+  unfolding update_status
   status-long h = rw (lt-ltb _ _ h)
 
-  pub status-short : length s ≤ 65536 → status_placed (read_status s at) ≡ status_placed (update_status s at)
+  pub status-short : length s ≤ 65536 → status_at s at ≡ update_status s at
   unfolding update_status
   status-short h = rw (le-ltb _ _ h)
 
-  pub status-told : (r : StatusAt) → r ≡ status_placed (update_status s at) → (r ≡ status_placed (update_status s at)) × (status_reading s r ≡ update_status s at)
-  status-told r e = (e, ap (status_reading s) e ∙ status-says s (update_status s at) (update-whole s at))
+  pub raw-is : (x : StatusPlace) → HasStatus x ≡ update_status s at → part s x.start x.end ≡ status_raw s at
+  unfolding status_raw raw_of
+  raw-is x e = rw (← e)
 
-  pub raw-is : (x : StatusPlace) → status_reading s (HasStatus x) ≡ update_status s at → part s x.start x.end ≡ status_raw s at
-  unfolding status_raw bytes_in status_reading
-  raw-is x e = ap (bytes_in (λ (y : Status). y.raw)) e
-
-  pub raw-none : (e : ℕ) → status_reading s (NoStatus e) ≡ update_status s at → [] ≡ status_raw s at
-  unfolding status_raw bytes_in status_reading
-  raw-none e q = ap (bytes_in (λ (y : Status). y.raw)) q
+  pub raw-none : (e : ℕ) → NoStatus e ≡ update_status s at → [] ≡ status_raw s at
+  unfolding status_raw raw_of
+  raw-none e q = rw (← q)
 
 -- the raw bytes of a status lie inside
-placed-inside : (s : List ℕ) (r : Reading Status) → Whole s r → (x : StatusPlace) → HasStatus x ≡ status_placed r → (x.start ≤ x.end) × (x.end ≤ length s)
-unfolding status_placed
-placed-inside s (got y next) w x e =
-    let es : x.start ≡ next - length y.raw = cc in
-    let ee : x.end ≡ next = cc in
-    (omega arith, omega (arith, w.0))
-placed-inside s (bad n) w x e = absurd (let z : ◌≡◌ {A = ℕ} 0 1 = cc in omega arith)
+sized_inside : (s : List ℕ) (rule : ℤ) (r : Read) (x : StatusPlace) → HasStatus x ≡ placed_status s rule r → (x.start ≤ x.end) × (x.end ≤ length s)
+unfolding placed_status
+sized_inside s rule Unreadable x e = absurd (let z : ◌≡◌ {A = ℕ} 0 1 = cc in omega arith)
+sized_inside s rule (Value m) x e = go (ltb (length s) (m.next + 1 + m.value)) refl e
+  where
+    go : (p : Bool) → ltb (length s) (m.next + 1 + m.value) ≡ p
+        → HasStatus x ≡ cond p (NoStatus update_unreadable) (HasStatus (record { rule = record { 0 = rule }; code = get_or s m.next 0; start = m.next + 1; end = m.next + 1 + m.value }))
+        → (x.start ≤ x.end) × (x.end ≤ length s)
+    go true h q = absurd (let z : ◌≡◌ {A = ℕ} 0 1 = cc in omega arith)
+    go false h q =
+        let es : x.start ≡ m.next + 1 = cc in
+        let ee : x.end ≡ m.next + 1 + m.value = cc in
+        (omega arith, omega (arith, ltb-false (length s) (m.next + 1 + m.value) h))
 
-pub raw-inside : (s : List ℕ) (at : ℕ) (x : StatusPlace) → HasStatus x ≡ status_placed (update_status s at) → (x.start ≤ x.end) × (x.end ≤ length s)
-raw-inside s at x e = placed-inside s (update_status s at) (update-whole s at) x e
+pub status-inside : (s : List ℕ) (at : ℕ) (x : StatusPlace) → HasStatus x ≡ status_at s at → (x.start ≤ x.end) × (x.end ≤ length s)
+unfolding status_at offset_then
+status-inside s at x e = go (vlq_at 16 s at) e
+  where
+    go : (r : Read) → HasStatus x ≡ offset_then s r → (x.start ≤ x.end) × (x.end ≤ length s)
+    go Unreadable q = absurd (let z : ◌≡◌ {A = ℕ} 0 1 = cc in omega arith)
+    go (Value m) q = sized_inside s (rule_of m.value) (vlq_at 16 s m.next) x q
+
+pub raw-inside : (s : List ℕ) (at : ℕ) (x : StatusPlace) → HasStatus x ≡ update_status s at → (x.start ≤ x.end) × (x.end ≤ length s)
+unfolding update_status
+raw-inside s at x e = go (ltb 65536 (length s)) e
+  where
+    go : (p : Bool) → HasStatus x ≡ cond p (NoStatus input_long) (status_at s at) → (x.start ≤ x.end) × (x.end ≤ length s)
+    go true q = absurd (let z : ◌≡◌ {A = ℕ} 0 1 = cc in omega arith)
+    go false q = status-inside s at x q
 
 -- a count
 pub count_small : (n : ℕ) → n < 2147483648 → n ≡ count_in n
@@ -198,7 +169,16 @@ module _ {A : Type 0} (read : ℕ → Reading A) (r : Read) where
   unfolding items_from
   from-count m e n q = rw (← e, q)
 
--- the rest of an update, after its rules were read
+-- the rest of an update, after its statuses or its rules were read
+module _ (rules : Section) (x : Parsed) where
+  pub statuses-stop : (x.refusal ≡ 0 → ⊥) → refused_update x.refusal ≡ with_statuses rules x
+  unfolding with_statuses
+  statuses-stop d = rw (ne_eqb _ _ d)
+
+  pub statuses-pass : x.refusal ≡ 0 → record { refusal = 0; update = record { rules = rules; statuses = x.section } } ≡ with_statuses rules x
+  unfolding with_statuses
+  statuses-pass z = rw (eq-eqb _ _ z)
+
 module _ (s : List ℕ) (x : Parsed) where
   pub rules-stop : (x.refusal ≡ 0 → ⊥) → refused_update x.refusal ≡ with_rules s x
   unfolding with_rules

@@ -1,7 +1,7 @@
 -- Headers in lanes: sixteen lanes hold sixteen headers, and blocks of sixteen hold all.
 -- Assumes nothing.
 use mathlib.Core.Path.{◌≡◌, refl, sym, ap, ◌∙◌, subst}
-use mathlib.Core.Bool.{Bool, true, false, cond, not, ◌||◌}
+use mathlib.Core.Bool.{Bool, true, false, cond, not, ◌&&◌, ◌||◌}
 use mathlib.Core.List.{List, [], ◌∷◌}
 use Prim.Native.Nat.{ℕ, zero, suc, ◌+◌, ◌-◌, ◌*◌, ◌/◌, ◌%◌, ◌≤◌, ◌<◌}
 use native.Mathlib.Numerals.{add-one}
@@ -11,7 +11,7 @@ use lib.ListN.{length, get_or, drop}
 use borrow.Author.Tests.{eqb-true, eqb-false, ltb-true, ltb-false, eq-eqb, ne_eqb, not-false}
 use Rattle.voting.specs.Header.{check_header_votes}
 use Rattle.voting.specs.Tally.{headers}
-use Rattle.voting.proofs.Laws.Tests.{by-test, neither, below_all}
+use Rattle.voting.proofs.Laws.Tests.{by-test, both, neither}
 use Rattle.headers.specs.Headers.{headers_refusal, check_headers}
 use Rattle.headers.specs.Lanes.{Legal, Lane, turns, place, LegalBlock, LegalBelow}
 use Rattle.headers.proofs.Laws.Headers.{header_at, checks-pass, checks-end}
@@ -85,9 +85,20 @@ module _ (s : List ℕ) (at l : ℕ) (h : l < 16) where
       (λ q. subst (λ (i : ℕ). Legal s (at + place i)) (sym (eqb-true j l q)) (lane-legal (k w.1)))
       (λ q. inv w.0 j (omega (arith, eqb-false j l q)))
 
+-- a test that every number below a bound passes, by computing
+abbrev all-below : (ℕ → Bool) → ℕ → Bool
+all-below f zero = true
+all-below f (suc n) = f n && all-below f n
+
+below : (f : ℕ → Bool) (n : ℕ) → all-below f n ≡ true → (k : ℕ) → k < n → f k ≡ true
+below f zero e k h = absurd (omega arith)
+below f (suc n) e k h =
+    let w = both (f n) (all-below f n) e in
+    by-test (eqb k n) (λ q. ap f (eqb-true k n q) ∙ w.0) (λ q. below f n w.1 k (omega (arith, eqb-false k n q)))
+
 -- header i of a block is in lane 3 * i % 16
 lane_of : (i : ℕ) → i < 16 → place ((3 * i) % 16) ≡ 3 * i
-lane_of i h = eqb-true (place ((3 * i) % 16)) (3 * i) (below_all (λ k. eqb (place ((3 * k) % 16)) (3 * k)) 16 refl i h)
+lane_of i h = eqb-true (place ((3 * i) % 16)) (3 * i) (below (λ k. eqb (place ((3 * k) % 16)) (3 * k)) 16 refl i h)
 
 block-header : (s : List ℕ) (at : ℕ) → LegalBlock s at → (i : ℕ) → i < 16 → Legal s (at + 3 * i)
 block-header s at f i h = subst (λ (k : ℕ). Legal s (at + k)) (lane_of i h) (f ((3 * i) % 16) (omega arith))

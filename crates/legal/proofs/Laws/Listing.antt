@@ -2,7 +2,7 @@
 -- Assumes nothing.
 use mathlib.Core.Path.{◌≡◌, refl, sym, ap, ◌∙◌, subst}
 use mathlib.Core.Bool.{Bool, true, false, cond}
-use mathlib.Core.List.{List, [], ◌∷◌, ◌++◌, append_assoc, append-nil, flat_map}
+use mathlib.Core.List.{List, [], ◌∷◌, ◌++◌, append_assoc, append-nil}
 use Prim.Native.Nat.{ℕ, suc, ◌+◌, ◌-◌, ◌/◌, ◌%◌, ◌≤◌, ◌<◌}
 use native.Mathlib.Nat.{zero-add}
 use native.Mathlib.Omega.{arith}
@@ -125,7 +125,7 @@ module _ (before : List ℕ) (n₀ : ℕ) (cells : List ℕ) (n wrote : ℕ) (f 
           ∙ ap (left_over (length before - wrote')) (sym same_rest)
 
       lines_next : lines_left (length before - wrote) n ≡ line_of n ++ lines_left (length before - wrote') n'
-      unfolding lines_of flat_map
+      unfolding lines_of
       lines_next = ap lines_of fits_next
 
       pub filling-on : length cells' ≡ length cells → Filling before n₀ cells' n' wrote'
@@ -148,7 +148,7 @@ module _ (before : List ℕ) (n₀ : ℕ) (cells : List ℕ) (n wrote : ℕ) (f 
   -- the end: nothing is left, or no line has room
   module _ (e : fitting (length before - wrote) (legal_from n) ≡ []) (g : left_over (length before - wrote) (legal_from n) ≡ legal_from n) where
     no_lines : lines_left (length before - wrote) n ≡ []
-    unfolding lines_of flat_map
+    unfolding lines_of
     no_lines = ap lines_of e
 
     ends-text : cells ≡ sets before 0 (lines_left (length before) n₀)
@@ -195,12 +195,12 @@ module _ (at : NextVotes) (room : ℕ) where
   next-narrow h = rw (lt-ltb room line_most h)
 
   text-narrow : room < line_most → text_of at room ≡ []
-  unfolding text_of lines_of flat_map
+  unfolding text_of lines_of
   text-narrow h = ap lines_of (fits-none room (rest_of at) h)
 
 -- the lines that are put, and those of the numbers that are left
 fits-left : (ns : List ℕ) (room : ℕ) → lines_of (fitting room ns) ++ lines_of (left_over room ns) ≡ lines_of ns
-unfolding lines_of fitting left_over flat_map
+unfolding lines_of fitting left_over
 fits-left [] room = refl
 fits-left (n ∷ ns) room = go (ltb room line_most) (fits-left ns (room - length (line_of n)))
   where
@@ -234,7 +234,7 @@ unfolding listing position_of
 begins = ap lines_of (rest-is (Votes 0 0 0) ∙ from_zero)
 
 pub pieces-all : Pieces (Votes 0 0 0)
-unfolding rest_of lines_of flat_map
+unfolding rest_of lines_of
 pieces-all = record {
   so_far = λ rooms. all-pieces rooms (Votes 0 0 0) ∙ begins;
   whole = λ rooms e.

@@ -254,8 +254,8 @@ next-right a b c = subst (Next (number a b c)) (sym (next-is a b c)) (next-means
 
 -- ---- asked again and again
 
-next_of : (q : ℕ) → next_legal_votes (q / 65536) (q / 256 % 256) (q % 256) ≡ first_of (legal_from (suc q))
-next_of q =
+next-of : (q : ℕ) → next_legal_votes (q / 65536) (q / 256 % 256) (q % 256) ≡ first_of (legal_from (suc q))
+next-of q =
     let s : number (q / 65536) (q / 256 % 256) (q % 256) + 1 ≡ suc q = omega arith in
     next-is (q / 65536) (q / 256 % 256) (q % 256) ∙ ap (λ (n : ℕ). first_of (legal_from n)) s
 
@@ -268,7 +268,7 @@ asked-from (suc k) n (q ∷ qs) e h =
     let s : number (q / 65536) (q / 256 % 256) (q % 256) ≡ q = omega arith in
     let t : legal_from (suc q) ≡ qs = sym (after_first n q qs e) in
     let ih : asked next_legal_votes k (first_of qs) ≡ qs = asked-from k (suc q) qs t (omega (arith, f.above)) in
-    rw (s, next_of q, t, ih)
+    rw (s, next-of q, t, ih)
 
 pub from_zero : legal_from 0 ≡ all_legal
 unfolding legal_from all_legal

@@ -1,5 +1,6 @@
 -- `ports::no_input` meets its contract. Assumes nothing.
 use Rattle.ports.specs.Ports.{unread-is}
+use Rattle.std.proofs.Common.{rules}
 use Rattle.ports.proofs.no_input.Statement.{statement}
 use Rattle.ports.proofs.no_input.Tie as tie
 

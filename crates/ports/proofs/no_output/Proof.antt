@@ -1,5 +1,6 @@
 -- `ports::no_output` meets its contract. Assumes nothing.
 use Rattle.ports.specs.Ports.{unwritten-is}
+use Rattle.std.proofs.Common.{rules}
 use Rattle.ports.proofs.no_output.Statement.{statement}
 use Rattle.ports.proofs.no_output.Tie as tie
 

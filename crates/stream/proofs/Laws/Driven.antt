@@ -1,6 +1,5 @@
 -- A run as it begins, and every way of handing an input to the calls. Assumes nothing.
 use Rattle.std.proofs.Common.{◌≡◌, ℕ, zero, suc, ◌+◌, ◌≤◌, List, [], ◌∷◌, ◌++◌, length, drop, sym, refl, ap, ◌∙◌, subst, arith, length-drop}
-use mathlib.Core.List.{flatten}
 use Rattle.voting.specs.declared.settings.Network.TheVariants.{Mainnet}
 use Rattle.voting.specs.declared.settings.VotingConfig.{VotingConfig}
 use Rattle.voting.specs.declared.table.Table.{Table}
@@ -11,20 +10,20 @@ use Rattle.archive.specs.declared.replay.Opened.{Opened}
 use Rattle.archive.specs.Replay.{opening_refusal, opened, open_of}
 use Rattle.stream.specs.declared.run.Run.{Run}
 use Rattle.stream.specs.Lines.{head_line, line_most}
-use Rattle.stream.specs.Stream.{printed, of-short}
+use Rattle.stream.specs.Stream.{printed, joined, of-short}
 use Rattle.stream.specs.Run.{prints, begun, ahead, longest_record, Ready, feed_of, finish_of}
 use Rattle.stream.specs.Driven.{mainnet_start, replay_prints, Driven, finished, next, fed, Drivable, drivable, Begins}
 use Rattle.stream.proofs.Laws.Reading.{lawful}
 use Rattle.stream.proofs.Laws.Feed.{feeds, finishes}
 
 -- what every way writes
-drives : {r : Run} {cells : List ℕ} {pieces : List (List ℕ)} {text : List ℕ} → Ready r cells → Driven r cells pieces text → ahead r cells (flatten pieces) ≡ text
-unfolding flatten
+drives : {r : Run} {cells : List ℕ} {pieces : List (List ℕ)} {text : List ℕ} → Ready r cells → Driven r cells pieces text → ahead r cells (joined pieces) ≡ text
+unfolding joined
 drives {r} {cells} y (finished room h) = (finishes r cells room y h).all
 drives y (next d) = drives y d
 drives {r} {cells} y (fed {piece = piece} {pieces = pieces} room h d) =
     let p = feeds room r cells piece y h in
-    p.goes_on (flatten pieces) ∙ ap (λ (x : List ℕ). (feed_of r cells piece room).text ++ x) (drives p.ready d)
+    p.goes_on (joined pieces) ∙ ap (λ (x : List ℕ). (feed_of r cells piece room).text ++ x) (drives p.ready d)
 
 -- a call takes a byte at least, so that a way ends
 abbrev weigh : List (List ℕ) → ℕ
@@ -64,7 +63,7 @@ module _ (s : Replay) (some : 1 ≤ voting_length s.settings) where
         ready = begun-ready;
         opens = opens;
         all-drivable = λ cells h pieces. can-drive (weigh pieces) (begun s) cells pieces (begun-ready cells h) (omega arith);
-        all-printed = λ cells h pieces text d. ap (λ (x : List ℕ). head_line ++ x) (sym (drives (begun-ready cells h) d)) ∙ sym (opens cells (flatten pieces));
+        all-printed = λ cells h pieces text d. ap (λ (x : List ℕ). head_line ++ x) (sym (drives (begun-ready cells h) d)) ∙ sym (opens cells (joined pieces));
       }
 
 -- the opening of program `replay`

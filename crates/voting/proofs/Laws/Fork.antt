@@ -1,6 +1,6 @@
 -- The fork check and the fork part, by the ways through the code.
 -- Assumes nothing.
-use Rattle.std.proofs.Common.{◌≡◌, ℕ, ◌+◌, ◌*◌, ◌^◌, ◌<◌, Bool, true, false, cond, not, ◌&&◌, ◌||◌, eqb, ltb, leb, List, ℤ, pos, negsuc, ◌+ℤ◌, sym, refl, ap, ◌∙◌, true≢false, arith, w32, SFits, to_z, of_z, eq-eqb, ne_eqb, eqb-true, leb-true}
+use Rattle.std.proofs.Common.{◌≡◌, ℕ, ◌+◌, ◌*◌, ◌^◌, ◌<◌, Bool, true, false, cond, not, ◌&&◌, ◌||◌, eqb, ltb, leb, List, ℤ, pos, negsuc, ◌+ℤ◌, sym, refl, ap, ◌∙◌, true≢false, arith, w32, SFits, to_z, of_z, eq-eqb, ne_eqb, leb-true}
 use mathlib.Core.Bool.{false≢true}
 use borrow.Author.Tests.{lt-leb}
 use lib.Signed.{le_z}
@@ -22,10 +22,10 @@ use Rattle.voting.specs.Common.{gate}
 use Rattle.voting.specs.Settings.{voting_length, vote_epochs, activation_epochs, version2_height, soft_fork_approved, settings_large}
 use Rattle.voting.specs.Table.{lookup, fork_entries}
 use Rattle.voting.specs.Header.{soft_fork_vote, votes_for}
-use Rattle.voting.specs.ForkCheck.{epochs_after, between, barred, check_round, check_fork_vote, fork_vote, fork_refusal, round_open, votes_open}
+use Rattle.voting.specs.ForkCheck.{epochs_after, between, barred, check_round, check_fork_vote, fork_refusal, round_open, votes_open}
 use Rattle.voting.specs.ForkPart.{no_round, fork_refused, phase_at, fork_total, reads_total, closes_late, closes_early, restarts, rises, without, begun, collected, one_more, version_by, risen, five_steps, round_steps, forced, finished, running, by_start, fork_part}
 use Rattle.voting.proofs.Laws.Integers.{at-exactly, at_most, at_least, below}
-use Rattle.voting.proofs.Laws.Tests.{by-test, gate-stop, gate-pass}
+use Rattle.voting.proofs.Laws.Tests.{gate-stop, gate-pass}
 
 -- a shifted height, as the code has it: the start is read back from its bits
 pub plain : (g : VotingConfig) (s : ℤ) (k r : ℕ) → SFits w32 s → pos r ≡ (to_z w32 (of_z w32 s) +ℤ pos (voting_length g * k)) +ℤ pos 2147483648 → pos r ≡ epochs_after g s k +ℤ pos 2147483648
@@ -51,45 +51,36 @@ phase-is g h s late early voting rising a b c d =
 
 -- ---- the fork check
 
--- an answer that was made of a number says that number
-pub fork-told : (n : ℕ) (r : ForkVote) → r ≡ fork_vote n → (r ≡ fork_vote n) × (fork_refusal r ≡ n)
-unfolding fork_vote fork_refusal
-fork-told n r e = (
-  e,
-  ap fork_refusal e ∙ by-test (eqb n 0) (λ t. rw t (sym (eqb-true n 0 t)))
-      (λ t. by-test (eqb n 12) (λ u. rw (t, u) (sym (eqb-true n 12 u))) (λ u. rw (t, u))),
-)
-
 module _ (g : VotingConfig) (h : ℕ) (start votes : Value) where
-  pub round-none : start ≡ Absent → Allowed ≡ fork_vote (check_round g h start votes)
-  unfolding check_round fork_vote
+  pub round-none : start ≡ Absent → Allowed ≡ check_round g h start votes
+  unfolding check_round
   round-none e = rw e
 
   module _ (s : ℤ) (is-s : start ≡ Number s) where
-    pub round-orphan : votes ≡ Absent → Refused 19 ≡ fork_vote (check_round g h start votes)
-    unfolding check_round fork_vote
+    pub round-orphan : votes ≡ Absent → Refused 19 ≡ check_round g h start votes
+    unfolding check_round
     round-orphan e = rw (is-s, e)
 
     module _ (n : ℤ) (is-n : votes ≡ Number n) (b : Bool) (is_b : b ≡ barred g h s n) where
-      pub round-barred : b ≡ true → Barred ≡ fork_vote (check_round g h start votes)
-      unfolding check_round fork_vote
+      pub round-barred : b ≡ true → Barred ≡ check_round g h start votes
+      unfolding check_round
       round-barred e = rw (is-s, is-n, ← is_b, e)
 
-      pub round-allowed : b ≡ false → Allowed ≡ fork_vote (check_round g h start votes)
-      unfolding check_round fork_vote
+      pub round-allowed : b ≡ false → Allowed ≡ check_round g h start votes
+      unfolding check_round
       round-allowed e = rw (is-s, is-n, ← is_b, e)
 
 module _ (g : VotingConfig) (h : ℕ) (votes : List ℕ) (t : Table) (large : Bool) (is-large : large ≡ settings_large g) where
-  pub check-large : large ≡ true → Refused 18 ≡ fork_vote (check_fork_vote g h votes t)
-  unfolding check_fork_vote fork_vote
+  pub check-large : large ≡ true → Refused 18 ≡ check_fork_vote g h votes t
+  unfolding check_fork_vote
   check-large e = rw (← is-large, e)
 
   module _ (small : large ≡ false) (v : Bool) (is-v : v ≡ votes_for soft_fork_vote votes) where
-    pub check-silent : v ≡ false → Allowed ≡ fork_vote (check_fork_vote g h votes t)
-    unfolding check_fork_vote fork_vote
+    pub check-silent : v ≡ false → Allowed ≡ check_fork_vote g h votes t
+    unfolding check_fork_vote
     check-silent e = rw (← is-large, small, ← is-v, e)
 
-    pub check-voting : v ≡ true → (r : ForkVote) → r ≡ fork_vote (check_round g h t.fork.start t.fork.votes) → r ≡ fork_vote (check_fork_vote g h votes t)
+    pub check-voting : v ≡ true → (r : ForkVote) → r ≡ check_round g h t.fork.start t.fork.votes → r ≡ check_fork_vote g h votes t
     unfolding check_fork_vote lookup
     check-voting e r is-r = is-r ∙ sym (rw (← is-large, small, ← is-v, e))
 
@@ -121,18 +112,18 @@ unbarred : (g : VotingConfig) (end h : ℕ) (s n : ℤ) → le_z (pos end) (epoc
 unfolding barred between
 unbarred g end h s n e b = rw (not_yet end h (epochs_after g s (vote_epochs g)) e b)
 
-round-allows : (g : VotingConfig) (end h : ℕ) (start votes : Value) → round_open g end start votes ≡ true → h < end → check_round g h start votes ≡ 0
-unfolding round_open check_round
+round-allows : (g : VotingConfig) (end h : ℕ) (start votes : Value) → round_open g end start votes ≡ true → h < end → fork_refusal (check_round g h start votes) ≡ 0
+unfolding round_open check_round fork_refusal
 round-allows g end h Absent votes e b = refl
 round-allows g end h (Number s) Absent e b = absurd (true≢false (sym e))
 round-allows g end h (Number s) (Number n) e b = rw (unbarred g end h s n e b)
 
-pub open-allows : (g : VotingConfig) (end : ℕ) (t : Table) → votes_open g end t ≡ true → (h : ℕ) (votes : List ℕ) → h < end → check_fork_vote g h votes t ≡ 0
-unfolding votes_open check_fork_vote
+pub open-allows : (g : VotingConfig) (end : ℕ) (t : Table) → votes_open g end t ≡ true → (h : ℕ) (votes : List ℕ) → h < end → fork_refusal (check_fork_vote g h votes t) ≡ 0
+unfolding votes_open check_fork_vote fork_refusal
 open-allows g end t e h votes b = go (settings_large g) (votes_for soft_fork_vote votes) e
   where
     go : (large v : Bool) → (not large && round_open g end (lookup t 122) (lookup t 121)) ≡ true
-        → cond large 18 (cond v (check_round g h (lookup t 122) (lookup t 121)) 0) ≡ 0
+        → fork_refusal (cond large (Refused 18) (cond v (check_round g h (lookup t 122) (lookup t 121)) Allowed)) ≡ 0
     go true v e = absurd (true≢false (sym e))
     go false true e = round-allows g end h (lookup t 122) (lookup t 121) e b
     go false false e = refl
@@ -242,3 +233,14 @@ pub steps-are : (p : Phase) (vote approved : Bool) (total : ℤ) (h : ℕ) (vote
 unfolding five_steps risen version_by
 steps-are p vote approved total h votes start z =
     rw (without_is (closes_late p approved) votes start (Number z), without_is (closes_early p approved), begun-is (restarts p vote approved) h, collected-is p.voting total)
+
+-- a fork check that turns nobody down allows
+pub allowed : (g : VotingConfig) (h : ℕ) (start votes : Value) → fork_refusal (check_round g h start votes) ≡ 0 → check_round g h start votes ≡ Allowed
+unfolding check_round fork_refusal
+allowed g h Absent votes e = refl
+allowed g h (Number s) Absent e = absurd (omega arith)
+allowed g h (Number s) (Number n) e = go (barred g h s n) e
+  where
+    go : (b : Bool) → fork_refusal (cond b Barred Allowed) ≡ 0 → cond b Barred Allowed ≡ Allowed
+    go true e = absurd (omega arith)
+    go false e = refl

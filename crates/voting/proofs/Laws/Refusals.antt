@@ -1,14 +1,14 @@
 -- No test of this crate answers 15, which is the match's own.
 -- Assumes nothing.
-use Rattle.std.proofs.Common.{◌≡◌, ℕ, zero, suc, Bool, true, false, cond, eqb, ltb, List, [], ◌∷◌, ℤ, pos, refl}
-use Rattle.codec.specs.Refusal.{too_many_votes, repeated_vote, contradictory_vote, fork_vote_barred, entry_differs, voting_length_zero, setting_large, votes_collected_absent}
+use Rattle.std.proofs.Common.{◌≡◌, ℕ, zero, suc, Bool, true, false, cond, ◌||◌, eqb, ltb, List, [], ◌∷◌, ℤ, pos, refl}
+use Rattle.codec.specs.Refusal.{too_many_votes, repeated_vote, contradictory_vote, entry_differs, voting_length_zero, setting_large, votes_collected_absent}
 use Rattle.counting.specs.Count.{count}
 use Rattle.voting.specs.Common.{eq_z, first, gate}
 use Rattle.voting.specs.Settings.{voting_length, settings_large}
 use Rattle.voting.specs.Table.{lookup, with_fork}
 use Rattle.voting.specs.Tally.{first_count}
 use Rattle.voting.specs.Header.{votes_in, negation, soft_fork_vote, ordinary_vote, votes_for, fault, fault_in, check_votes, check_header_votes}
-use Rattle.voting.specs.ForkCheck.{barred, check_round, check_fork_vote}
+use Rattle.voting.specs.ForkCheck.{barred, check_round, check_fork_vote, fork_refusal}
 use Rattle.voting.specs.ForkPart.{no_round, fork_refused, phase_at, reads_total, version_by, risen, five_steps, forced, finished, running, opening, by_start, fork_part}
 use Rattle.voting.specs.Ordinary.{onward, voted, ordinary_votes}
 use Rattle.voting.specs.Boundary.{refuses, boundary_of}
@@ -18,6 +18,7 @@ use Rattle.voting.specs.declared.table.Value.TheVariants.{Absent, Number}
 use Rattle.voting.specs.declared.table.Fork.{Fork}
 use Rattle.voting.specs.declared.table.Table.{Table}
 use Rattle.voting.specs.declared.tally.Entry.{Entry}
+use Rattle.voting.specs.declared.fork.ForkVote.TheVariants.{Allowed, Barred, Refused}
 use Rattle.voting.specs.declared.fork.Phase.{Phase}
 use Rattle.voting.specs.declared.fork.Round.{Round}
 use Rattle.voting.specs.declared.fork.Forked.{Forked}
@@ -66,21 +67,21 @@ module _ (P : ℕ → Type 0) (none : P 0) (many : P too_many_votes) (repeated :
 pub header-other : (bytes : List ℕ) → Other (check_header_votes bytes)
 header-other = header-by Other refl refl refl refl
 
-round-other : (g : VotingConfig) (height : ℕ) (start votes : Value) → Other (check_round g height start votes)
-unfolding check_round
+round-other : (g : VotingConfig) (height : ℕ) (start votes : Value) → Other (fork_refusal (check_round g height start votes))
+unfolding check_round fork_refusal
 round-other g height Absent votes = refl
 round-other g height (Number start) Absent = refl
 round-other g height (Number start) (Number votes) = go (barred g height start votes)
   where
-    go : (a : Bool) → Other (cond a fork_vote_barred 0)
+    go : (a : Bool) → Other (fork_refusal (cond a Barred Allowed))
     go true = refl
     go false = refl
 
-pub fork-vote-other : (g : VotingConfig) (height : ℕ) (votes : List ℕ) (t : Table) → Other (check_fork_vote g height votes t)
-unfolding check_fork_vote
+pub fork-vote-other : (g : VotingConfig) (height : ℕ) (votes : List ℕ) (t : Table) → Other (fork_refusal (check_fork_vote g height votes t))
+unfolding check_fork_vote fork_refusal
 fork-vote-other g height votes t = go (settings_large g) (votes_for soft_fork_vote votes)
   where
-    go : (a b : Bool) → Other (cond a setting_large (cond b (check_round g height (lookup t 122) (lookup t 121)) 0))
+    go : (a b : Bool) → Other (fork_refusal (cond a (Refused setting_large) (cond b (check_round g height (lookup t 122) (lookup t 121)) Allowed)))
     go true b = refl
     go false true = round-other g height (lookup t 122) (lookup t 121)
     go false false = refl

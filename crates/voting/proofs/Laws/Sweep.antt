@@ -1,6 +1,6 @@
 -- The boundary in one pass over the tally: the ways through the code, and that the pass gives the boundary of the rules.
 -- Assumes nothing.
-use Rattle.std.proofs.Common.{◌≡◌, ℕ, ◌+◌, ◌<◌, ◌≤◌, Bool, true, false, cond, not, ◌&&◌, ◌||◌, eqb, List, [], ◌∷◌, length, get_or, drop, pos, refl, ap, ◌∙◌, add-one, arith, drop_of_length-le, drop-cons, w8, SFits, of_z, le-ltb, eq-eqb, ne_eqb, eqb-true}
+use Rattle.std.proofs.Common.{◌≡◌, ℕ, ◌+◌, ◌<◌, ◌≤◌, Bool, true, false, cond, not, ◌&&◌, ◌||◌, eqb, List, [], ◌∷◌, ◌++◌, length, get_or, drop, ℤ, pos, refl, ap, ◌∙◌, add-one, arith, drop_of_length-le, drop-cons, w8, SFits, of_z, le-ltb, eq-eqb, ne_eqb, eqb-true}
 use Rattle.codec.specs.Refusal.{unknown_parameter}
 use Rattle.voting.specs.declared.settings.VotingConfig.{VotingConfig}
 use Rattle.voting.specs.declared.table.Value.{Value}

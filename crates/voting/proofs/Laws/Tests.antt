@@ -1,6 +1,6 @@
 -- Tests taken apart, and tests that say the same.
 -- Assumes nothing.
-use Rattle.std.proofs.Common.{◌≡◌, ℕ, zero, suc, ◌<◌, ◌≤◌, Bool, true, false, ◌&&◌, ◌||◌, eqb, ltb, leb, List, [], ◌∷◌, sym, refl, ap, ◌∙◌, true≢false, arith, eq-eqb, ne_eqb, eqb-true, le-leb, leb-false, leb-true}
+use Rattle.std.proofs.Common.{◌≡◌, ℕ, zero, suc, ◌<◌, ◌≤◌, Bool, true, false, ◌&&◌, ◌||◌, eqb, ltb, leb, List, [], ◌∷◌, sym, refl, ◌∙◌, true≢false, arith, eq-eqb, ne_eqb, eqb-true, le-leb, leb-false, leb-true}
 use mathlib.Core.Bool.{false≢true}
 use borrow.Author.Tests.{eqb-false}
 use Rattle.voting.specs.Common.{gate}
@@ -21,17 +21,6 @@ neither false b e = (refl, e)
 pub or_elim : {P : Type 0} (a b : Bool) → a || b ≡ true → (a ≡ true → P) → (b ≡ true → P) → P
 or_elim true b e f g = f refl
 or_elim false b e f g = g e
-
--- a test that every number below a bound passes, by computing
-abbrev pub all-below : (ℕ → Bool) → ℕ → Bool
-all-below f zero = true
-all-below f (suc n) = f n && all-below f n
-
-pub below_all : (f : ℕ → Bool) (n : ℕ) → all-below f n ≡ true → (k : ℕ) → k < n → f k ≡ true
-below_all f zero e k h = absurd (omega arith)
-below_all f (suc n) e k h =
-    let w = both (f n) (all-below f n) e in
-    by-test (eqb k n) (λ q. ap f (eqb-true k n q) ∙ w.0) (λ q. below_all f n w.1 k (omega (arith, eqb-false k n q)))
 
 -- a test that every element of a list passes
 unfoldable pub every : {A : Type 0} → (A → Bool) → List A → Bool

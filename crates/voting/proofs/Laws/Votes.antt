@@ -1,6 +1,6 @@
 -- One vote and the votes in order: a law for each way out of the code.
 -- Assumes nothing.
-use Rattle.std.proofs.Common.{◌≡◌, ℕ, Bool, true, false, cond, not, ℤ, sym, ap, ◌∙◌, ap₂, w8, w32, SFits, to_z, of_z}
+use Rattle.std.proofs.Common.{◌≡◌, ℕ, Bool, true, false, cond, not, eqb, List, [], ◌∷◌, ℤ, pos, sym, refl, ap, ◌∙◌, ap₂, arith, w8, w32, SFits, to_z, of_z, eq-eqb, ne_eqb, eqb-true}
 use mir.ValLaws.{to_z-of_z}
 use borrow.Author.Tests.{not-true, not-false}
 use Rattle.codec.specs.Refusal.{unknown_parameter, absent_parameter}
@@ -9,8 +9,13 @@ use Rattle.voting.specs.declared.table.Value.{Value}
 use Rattle.voting.specs.declared.table.Value.TheVariants.{Absent, Number}
 use Rattle.voting.specs.declared.table.Table.{Table}
 use Rattle.voting.specs.declared.tally.Entry.{Entry}
+use Rattle.voting.specs.declared.tally.Tally.{Tally}
+use Rattle.voting.specs.declared.ordinary.Voted.{Voted}
+use Rattle.voting.specs.Common.{eq_z}
 use Rattle.voting.specs.Table.{lookup, update}
-use Rattle.voting.specs.Ordinary.{parameter, moved, known, passes, stops, counts, writes, approved_vote, voted}
+use Rattle.voting.specs.Tally.{entry, entries}
+use Rattle.voting.proofs.Laws.Integers.{is-number}
+use Rattle.voting.specs.Ordinary.{parameter, moved, known, passes, stops, onward, counts, writes, approved_vote, voted, ordinary_votes}
 
 -- One vote: a law for each way out of the code. r: it counts; m: its parameter; k: m is known; v: the value of m.
 module _ (g : VotingConfig) (from new : Table) (e : Entry) (r : Bool) (is-r : r ≡ counts g e) where
@@ -44,3 +49,50 @@ module _ (g : VotingConfig) (from new : Table) (e : Entry) (r : Bool) (is-r : r 
       vote-writes z q fz x fx is_x t is-t =
           ap passes (is-t ∙ ap₂ (λ (n : ℕ) (y : ℤ). update new n (Number y)) (is_m ∙ ap parameter id-back) (to_z-of_z w32 x fx ∙ is_x ∙ ap₂ moved id-back (to_z-of_z w32 z fz)))
           ∙ found (Number z) q
+
+-- A place of a tally: id 0 holds no entry.
+onward-end : (g : VotingConfig) (from : Table) (v : Voted) → onward v (ordinary_votes g from []) ≡ v
+unfolding onward ordinary_votes
+onward-end g from v = go (eqb v.refusal 0) refl
+  where
+    go : (b : Bool) → eqb v.refusal 0 ≡ b → cond b (passes v.table) v ≡ v
+    go true q = λ i. record { refusal = sym (eqb-true v.refusal 0 q) i; table = v.table }
+    go false q = refl
+
+module _ (g : VotingConfig) (from : Table) (e : Entry) (new : Table) where
+  pub place_none : SFits w8 e.id → of_z w8 e.id ≡ 0 → passes new ≡ ordinary_votes g from (entry e []) new
+  unfolding entry ordinary_votes
+  place_none f q = rw (is-number w8 e.id 0 f (omega arith), eq-eqb (of_z w8 e.id) 0 q)
+
+  pub place-one : (v : Voted) → v ≡ voted g from e new → SFits w8 e.id → (of_z w8 e.id ≡ 0 → ⊥) → v ≡ ordinary_votes g from (entry e []) new
+  unfolding entry ordinary_votes
+  place-one v q f d = q ∙ sym (onward-end g from (voted g from e new)) ∙ rw (is-number w8 e.id 0 f (omega arith), ne_eqb (of_z w8 e.id) 0 d)
+
+-- a place and then the rest
+place-onward : (g : VotingConfig) (from : Table) (e : Entry) (es : List Entry) (new : Table)
+    → ordinary_votes g from (entry e es) new ≡ onward (ordinary_votes g from (entry e []) new) (ordinary_votes g from es)
+unfolding entry ordinary_votes onward
+place-onward g from e es new = go (eq_z e.id (pos 0))
+  where
+    go : (b : Bool) → ordinary_votes g from (cond b es (e ∷ es)) new ≡ onward (ordinary_votes g from (cond b [] (e ∷ [])) new) (ordinary_votes g from es)
+    go true = refl
+    go false = ap (λ (v : Voted). onward v (ordinary_votes g from es)) (sym (onward-end g from (voted g from e new)))
+
+pub onward-stop : (r v : Voted) (k : Table → Voted) → r ≡ v → (r.refusal ≡ 0 → ⊥) → r ≡ onward v k
+unfolding onward
+onward-stop r v k q d = rw (← q, ne_eqb r.refusal 0 d)
+
+pub onward-pass : (r v : Voted) (k : Table → Voted) → r ≡ v → r.refusal ≡ 0 → k r.table ≡ onward v k
+unfolding onward
+onward-pass r v k q z = rw (← q, eq-eqb r.refusal 0 z)
+
+-- the three places of a tally
+abbrev placed : VotingConfig → Table → Entry → Table → Voted
+placed g from e = ordinary_votes g from (entry e [])
+
+pub three-places : (g : VotingConfig) (from : Table) (y : Tally) (new : Table)
+    → onward (placed g from y.first new) (λ n. onward (placed g from y.second n) (placed g from y.third)) ≡ ordinary_votes g from (entries y) new
+unfolding entries
+three-places g from y new =
+    sym (place-onward g from y.first (entry y.second (entry y.third [])) new
+    ∙ ap (onward (placed g from y.first new)) (λ i n. place-onward g from y.second (entry y.third []) n i))

@@ -1,15 +1,15 @@
 -- The match of a computed table with what was found, and with the parameters of a body.
 -- Assumes nothing.
 use mathlib.Core.Path.{◌≡◌, refl, sym, ap, ◌∙◌}
-use mathlib.Core.Bool.{Bool, true, false, not}
+use mathlib.Core.Bool.{Bool, true, false, not, ◌&&◌}
 use mathlib.Core.List.{◌∷◌}
-use Prim.Native.Nat.{ℕ, suc, ◌+◌, ◌-◌, ◌≤◌, ◌<◌}
+use Prim.Native.Nat.{ℕ, zero, suc, ◌+◌, ◌-◌, ◌≤◌, ◌<◌}
 use native.Mathlib.Numerals.{add-one}
 use native.Mathlib.Omega.{arith}
 use lib.Dec.{eqb}
 use lib.ListN.{get_or, drop}
 use lib.Seq.{drop-cons}
-use borrow.Author.Tests.{not-true, not-false, eqb-true, le-leb}
+use borrow.Author.Tests.{not-true, not-false, eqb-true, eqb-false, le-leb}
 use Rattle.codec.specs.Refusal.{entry_differs}
 use Rattle.voting.specs.Ordinary.{known}
 use Rattle.voting.specs.Table.{lookup, slot}
@@ -17,7 +17,7 @@ use Rattle.voting.specs.declared.table.Value.{Value}
 use Rattle.voting.specs.declared.table.Value.TheVariants.{Absent}
 use Rattle.voting.specs.declared.table.Fork.{Fork}
 use Rattle.voting.specs.declared.table.Table.{Table}
-use Rattle.voting.proofs.Laws.Tests.{below_all}
+use Rattle.voting.proofs.Laws.Tests.{by-test, both}
 use Rattle.voting.proofs.Laws.Table.{lookup-known}
 use Rattle.extension.specs.declared.parameters.ParameterMap.{ParameterMap}
 use Rattle.extension.specs.Parameters.{agrees, table_ids, first_differing, matched, check_parameters}
@@ -30,6 +30,17 @@ pub match-parameters : (e : Table) (m : ParameterMap) → match_found e (table_i
 unfolding match_found check_parameters first_unlike first_differing table_ids table_in lookup
 match-parameters e m = refl
 
+-- a test of every number below another, by computing
+abbrev all-below : (ℕ → Bool) → ℕ → Bool
+all-below f zero = true
+all-below f (suc n) = f n && all-below f n
+
+below : (f : ℕ → Bool) (n : ℕ) → all-below f n ≡ true → (k : ℕ) → k < n → f k ≡ true
+below f zero e k h = absurd (omega arith)
+below f (suc n) e k h =
+    let w = both (f n) (all-below f n) e in
+    by-test (eqb k n) (λ q. ap f (eqb-true k n q) ∙ w.0) (λ q. below f n w.1 k (omega (arith, eqb-false k n q)))
+
 -- the ids that are left
 module _ (e f : Table) (k : ℕ) where
   pub unlike-fork : k ≤ 9 → 9 ≤ k → fork_unlike e.fork f.fork ≡ first_unlike e f (drop k table_ids)
@@ -40,7 +51,7 @@ module _ (e f : Table) (k : ℕ) where
     here : drop k table_ids ≡ (k + 1) ∷ drop (k + 1) table_ids
     unfolding table_ids
     here =
-        let id = eqb-true (get_or table_ids k 0) (k + 1) (below_all (λ n. eqb (get_or table_ids n 0) (n + 1)) 9 refl k h) in
+        let id = eqb-true (get_or table_ids k 0) (k + 1) (below (λ n. eqb (get_or table_ids n 0) (n + 1)) 9 refl k h) in
         rw (add-one k) (drop-cons table_ids k 0 (omega arith) ∙ ap (λ (n : ℕ). n ∷ drop (suc k) table_ids) (id ∙ add-one k))
 
     abbrev entry : Table → Value

@@ -1,7 +1,7 @@
 -- The slots of the fields hold the entries of the map of parameters.
 -- Assumes nothing.
 use mathlib.Core.Path.{◌≡◌, refl, sym, ap, ◌∙◌}
-use mathlib.Core.Bool.{Bool, true, false, cond, false≢true}
+use mathlib.Core.Bool.{true, false, cond, ◌&&◌, false≢true}
 use mathlib.Core.List.{List, [], ◌∷◌}
 use Prim.Native.Nat.{ℕ, ◌+◌, ◌-◌, ◌<◌}
 use native.Mathlib.Omega.{arith}
@@ -47,7 +47,7 @@ slot-back id =
     by-test (leb id 9) (λ b. rw (a, b) (λ h. rw (lt-ltb (id - 1) 9 (omega (arith, leb-true id 9 b))) (omega (arith, ltb-false id 1 a)))) λ b.
     by-test (ltb id 121) (λ c. rw (a, b, c) (λ h. absurd (omega (arith, h)))) λ c.
     by-test (ltb 123 id) (λ d. rw (a, b, c, d) (λ h. absurd (omega (arith, h)))) λ d.
-    rw (a, b, c, d) (λ h. let k = id - 121 + 9 in ap (λ (t : Bool). cond t (k + 1) (k + 112)) (le-ltb k 9 (omega arith)) ∙ omega (arith, ltb-false id 121 c))
+    rw (a, b, c, d) (λ h. rw (le-ltb (id - 112) 9 (omega (arith, ltb-false id 121 c))) (omega (arith, ltb-false id 121 c)))
 
 -- a field of another kind has no place
 no_place : (a b : ℕ) → parameter_key a b ≡ false → place_of a b ≡ 12
@@ -105,6 +105,13 @@ module _ (slots : List Slot) (m n : ParameterMap) (w : Holds slots m) (sized : l
 
   holds_after : Holds (set slots k x) n
   holds_after = record { thirteen = length-set slots k x ∙ w.thirteen; each-byte = sized; same = same_after }
+
+taken-size : (f : Field) (m : ParameterMap) → length (taken f m).entries ≡ length m.entries
+unfolding taken
+taken-size f m =
+    by-test (parameter_key f.key0 f.key1 && eqb (length f.value) 4)
+    (λ t. rw t (length-set m.entries f.key1 (slot (number_in f.value))))
+    (λ t. rw t)
 
 -- one field, and all fields, none of them of a wrong size
 module _ (slots : List Slot) (m : ParameterMap) (w : Holds slots m) (f : Field) where

@@ -13,15 +13,13 @@ use Rattle.voting.specs.declared.table.Table.{Table}
 use Rattle.voting.proofs.Laws.Tests.{by-test, both}
 use Rattle.extension.specs.declared.section.Parsed.{Parsed}
 use Rattle.extension.specs.declared.body.FieldPlace.{FieldPlace}
-use Rattle.extension.specs.declared.body.Trailing.{Trailing}
-use Rattle.extension.specs.declared.body.Trailing.TheVariants.{Ignored}
 use Rattle.extension.specs.declared.body.FieldAt.{FieldAt}
 use Rattle.extension.specs.declared.body.FieldAt.TheVariants.{HasField, NoField}
 use Rattle.extension.specs.Section.{Listing, item, listing, items, section, refused_section, closed, section_items, any, part, PartIs}
-use Rattle.extension.specs.Body.{Field, read_field, field_placed, field_at, extension_of, judged_by, extension_as, fields_of, body_field, update_key, update_in, proposed_update, wrong_size, wrong_parameter, check_body_as}
+use Rattle.extension.specs.Body.{Field, field_at, read_field, extension_of, fields_of, body_field, update_key, update_in, proposed_update, wrong_size, wrong_parameter, check_body}
 use Rattle.extension.specs.Parameters.{no_parameters, parameters_in, parameters_of}
 use Rattle.extension.proofs.Laws.Section.{listing_none, listing-stop, listing-item, closed-done, closed-stop, closed-item, items-done, items-item}
-use Rattle.extension.proofs.Laws.Body.{field_in, field-read, field-unread, field-bad, field-inside, at_here, wrong-place, check-body-by, judged-refused, extension-ignored}
+use Rattle.extension.proofs.Laws.Body.{field_in, field-read, field-unread, field-inside, at_here, wrong-place, check-body-by}
 use Rattle.extension.proofs.Laws.Parameters.{parameters-is}
 use Rattle.walk.specs.declared.Walked.{Walked}
 use Rattle.walk.specs.Walk.{table_in, WalkedIs}
@@ -31,20 +29,16 @@ use Rattle.walk.proofs.Laws.Slots.{holds-none, holds-stored, table-holds}
 -- a body by its fields: its check, and its parameters
 module _ (s : List ℕ) (fs : List Field) (is-fs : fields_of s ≡ fs) where
   module _ (w : any wrong_parameter fs ≡ true) where
-    check-wrong : (trailing : Trailing) → refused_section parameter_size ≡ check_body_as trailing s
-    check-wrong trailing = sym (check-body-by trailing s ∙ rw (is-fs, w))
+    check-wrong : refused_section parameter_size ≡ check_body s
+    check-wrong = sym (check-body-by s ∙ rw (is-fs, w))
 
     table-wrong : table_in no_parameters ≡ table_in (parameters_of s).map
     unfolding section_items listing items parameters_in
-    table-wrong = ap (λ (p : _). table_in p.map) (parameters-is s (refused_section parameter_size) (check-wrong Ignored) no_parameters refl)
+    table-wrong = ap (λ (p : _). table_in p.map) (parameters-is s (refused_section parameter_size) check-wrong no_parameters refl)
 
   module _ (w : any wrong_parameter fs ≡ false) (x : Parsed) (is_x : x ≡ extension_of s) where
-    check-judged : (trailing : Trailing) (r : Parsed) → r ≡ judged_by trailing (length s) x → r ≡ check_body_as trailing s
-    unfolding extension_as
-    check-judged trailing r is-r = is-r ∙ ap (judged_by trailing (length s)) is_x ∙ sym (check-body-by trailing s ∙ rw (is-fs, w))
-
-    check-right : x ≡ check_body_as Ignored s
-    check-right = is_x ∙ sym (check-body-by Ignored s ∙ rw (is-fs, w) (extension-ignored s))
+    check-right : x ≡ check_body s
+    check-right = is_x ∙ sym (check-body-by s ∙ rw (is-fs, w))
 
     table-right : table_in (parameters_in fs no_parameters) ≡ table_in (parameters_of s).map
     unfolding fields_of
@@ -54,19 +48,19 @@ module _ (s : List ℕ) (fs : List Field) (is-fs : fields_of s ≡ fs) where
         ap (λ (p : _). table_in p.map) (parameters-is s x check-right (parameters_in fs no_parameters) e)
 
 -- a body that is refused before its fields are read
-pub refused-is : (trailing : Trailing) (s : List ℕ) (e : ℕ) → (e ≡ 0 → ⊥) → refused_section e ≡ extension_of s → (r : Walked) → r ≡ refused_walk e → WalkedIs trailing s r
+pub refused-is : (s : List ℕ) (e : ℕ) → refused_section e ≡ extension_of s → (r : Walked) → r ≡ refused_walk e → WalkedIs s r
 unfolding refused_walk fields_of section_items listing items any proposed_update update_in parameters_in
-refused-is trailing s e d q r is-r =
+refused-is s e q r is-r =
     let none : fields_of s ≡ [] = rw (← q) in
     rw is-r
     (record {
-      parsed = check-judged s [] none refl (refused_section e) q trailing (refused_section e) (judged-refused trailing (length s) (refused_section e) d);
+      parsed = check-right s [] none refl (refused_section e) q;
       update = record { ordered = omega arith; inside = omega arith; is = sym (ap update_in none) };
       found = table-right s [] none refl (refused_section e) q;
     })
 
 -- what was met at a position of a body that is not too long
-pub met : (s : List ℕ) (at : ℕ) → length s ≤ 65536 → (x y : FieldAt) → x ≡ field_placed at (body_field s at) → x ≡ y → y ≡ field_at s at
+pub met : (s : List ℕ) (at : ℕ) → length s ≤ 65536 → (x y : FieldAt) → x ≡ body_field s at → x ≡ y → y ≡ field_at s at
 met s at h x y is_x e = sym e ∙ is_x ∙ sym (at_here s at h)
 
 -- so many fields from a position on
@@ -151,10 +145,8 @@ module _ (s : List ℕ) (count begin left at : ℕ) (wrong seen : Bool) (start e
 
   -- the end, or a field that is cut
   module _ (is_Is_body : closed count begin (listed s count begin) ≡ extension_of s) where
-    pub walk-cut : (trailing : Trailing) → 0 < left → (e : ℕ) → NoField e ≡ field_at s at → (r : Walked) → r ≡ refused_walk e → WalkedIs trailing s r
-    walk-cut trailing more e q =
-        refused-is trailing s e (field-bad s at e q)
-        (closed-stop count begin _ e (listing-stop (read_field s) left at more e (field-unread s at e q)) ∙ w.closes ∙ is_Is_body)
+    pub walk-cut : 0 < left → (e : ℕ) → NoField e ≡ field_at s at → refused_section e ≡ extension_of s
+    walk-cut more e q = closed-stop count begin _ e (listing-stop (read_field s) left at more e (field-unread s at e q)) ∙ w.closes ∙ is_Is_body
 
     module _ (none : left ≤ 0) where
       over : items (listed s left at) ≡ []
@@ -186,23 +178,23 @@ module _ (s : List ℕ) (count begin left at : ℕ) (wrong seen : Bool) (start e
                 ∙ ap update_in (sym fields-are);
           }
 
-      pub walk-wrong : (trailing : Trailing) → wrong ≡ true → (x : Parsed) → x ≡ refused_section parameter_size → (t : Table) → t ≡ table_in no_parameters
-          → WalkedIs trailing s (record { parsed = x; start = start; end = end; found = t })
-      walk-wrong trailing y x is_x t is-t =
+      pub walk-wrong : wrong ≡ true → (x : Parsed) → x ≡ refused_section parameter_size → (t : Table) → t ≡ table_in no_parameters
+          → WalkedIs s (record { parsed = x; start = start; end = end; found = t })
+      walk-wrong y x is_x t is-t =
           record {
-            parsed = is_x ∙ check-wrong s _ fields-are (wrong-is ∙ y) trailing;
+            parsed = is_x ∙ check-wrong s _ fields-are (wrong-is ∙ y);
             update = update-is;
             found = is-t ∙ table-wrong s _ fields-are (wrong-is ∙ y);
           }
 
-      pub walk-right : (trailing : Trailing) → wrong ≡ false → (x : Parsed) → x ≡ record { refusal = 0; section = section count begin at } → (r : Parsed) → r ≡ judged_by trailing (length s) x
-          → (t : Table) → t ≡ table_from found → WalkedIs trailing s (record { parsed = r; start = start; end = end; found = t })
+      pub walk-right : wrong ≡ false → (x : Parsed) → x ≡ record { refusal = 0; section = section count begin at } → (t : Table) → t ≡ table_from found
+          → WalkedIs s (record { parsed = x; start = start; end = end; found = t })
       unfolding stored
-      walk-right trailing n x is_x r is-r t is-t =
+      walk-right n x is_x t is-t =
           let fs = items (listed s count begin) in
           let all : found ≡ stored fs no_slots = ap (λ (gs : List Field). stored gs found) (sym over) ∙ w.slots in
           record {
-            parsed = check-judged s fs fields-are (wrong-is ∙ n) x (is_x ∙ read_is) trailing r is-r;
+            parsed = check-right s fs fields-are (wrong-is ∙ n) x (is_x ∙ read_is);
             update = update-is;
             found =
                 is-t ∙ ap table_from all

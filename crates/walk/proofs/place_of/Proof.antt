@@ -35,8 +35,8 @@ returns-5 c =
     let second = third.before in
     (rw (eq-eqb _ _ second.before.if1.false, le-ltb _ _ second.if2.false, lt-leb _ _ third.if3.false, le-ltb _ _ fourth.if4.false, lt-ltb _ _ c.if5.true), search rules)
 
-add-result : tie.Need-overflow-add-result
-add-result c = search rules
+sub-result : tie.Need-overflow-sub-result
+sub-result c = search rules
 
 cast-result-2 : tie.Need-overflow-cast-result-2
 cast-result-2 c = search rules
@@ -59,6 +59,6 @@ place-of-spec =
     returns-3
     returns-4
     returns-5
-    add-result
+    sub-result
     cast-result-2
     returns-6)

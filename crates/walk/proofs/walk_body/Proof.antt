@@ -1,6 +1,5 @@
 -- `walk::walk_body` meets its contract. Assumes nothing.
 use mathlib.Core.Path.{sym, ◌∙◌}
-use native.Mathlib.Omega.{arith}
 use Rattle.codec.proofs.Laws.VlqTrip.{read-inside}
 use Rattle.extension.proofs.Laws.Body.{body-long, body-short, body-counted, body-uncounted}
 use Rattle.walk.proofs.Laws.Walk.{refused-is}
@@ -12,13 +11,13 @@ refused-requires : tie.Need-refused-requires
 refused-requires c κs = search rules
 
 returns : tie.Need-returns
-returns c = refused-is _ _ _ (λ e. omega arith) (body-long _ c.before.if1.true) _ c.refused.ensures
+returns c = refused-is _ _ (body-long _ c.before.if1.true) _ c.refused.ensures
 
 refused-requires-2 : tie.Need-refused-requires-2
 refused-requires-2 c κs = search rules
 
 returns-2 : tie.Need-returns-2
-returns-2 c = refused-is _ _ _ (λ e. omega arith) (body-short _ c.before.before.if1.false c.before.if2.true) _ c.refused2.ensures
+returns-2 c = refused-is _ _ (body-short _ c.before.before.if1.false c.before.if2.true) _ c.refused2.ensures
 
 read-u32-requires : tie.Need-read-u32-requires
 read-u32-requires c κs = search rules
@@ -47,7 +46,7 @@ returns-3 c = c.walk-fields.ensures
 returns-4 : tie.Need-returns-4
 returns-4 c =
     let read = c.before.before.before in
-    refused-is _ _ _ (λ e. omega arith) (body-uncounted _ read.before.before.if1.false read.before.if2.false (sym c.before.enum_told.given.1 ∙ read.read_u32.ensures)) _ c.refused3.ensures
+    refused-is _ _ (body-uncounted _ read.before.before.if1.false read.before.if2.false (sym c.before.enum_told.given.1 ∙ read.read_u32.ensures)) _ c.refused3.ensures
 
 pub walk-body-spec : {M : Type 1} → statement M
 walk-body-spec =

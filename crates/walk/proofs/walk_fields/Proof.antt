@@ -1,17 +1,17 @@
 -- `walk::walk_fields` meets its contract. Assumes nothing.
 use native.Mathlib.Omega.{arith}
 use Rattle.extension.proofs.Laws.Body.{field-inside}
-use Rattle.walk.proofs.Laws.Walk.{Walking, met, walk_begins, walk-update, walk-on, walk-cut, walk-wrong, walk-right}
+use Rattle.walk.proofs.Laws.Walk.{Walking, met, refused-is, walk_begins, walk-update, walk-on, walk-cut, walk-wrong, walk-right}
 use borrow.Author.Rules.{rules}
 use Rattle.walk.proofs.walk_fields.Statement.{statement}
 use Rattle.walk.proofs.walk_fields.Tie as tie
 
 abbrev invariant-loop : tie.invariant-loop
-invariant-loop body trailing count begin found₀ wrong₀ seen₀ start₀ end₀ at₀ left₀ found wrong seen start end at left =
+invariant-loop body count begin found₀ wrong₀ seen₀ start₀ end₀ at₀ left₀ found wrong seen start end at left =
     Walking body count begin left at wrong seen start end found
 
 abbrev decreases-loop : tie.decreases-loop
-decreases-loop body trailing count begin found₀ wrong₀ seen₀ start₀ end₀ at₀ left₀ found wrong seen start end at left =
+decreases-loop body count begin found₀ wrong₀ seen₀ start₀ end₀ at₀ left₀ found wrong seen start end at left =
     left
 
 loop-holds : tie.Need-loop-init invariant-loop decreases-loop
@@ -31,7 +31,7 @@ sub-wrong-size c =
     let field = c.before in
     let read = field.before.before in
     let turn = read.before in
-    let e = met _ _ turn.before.before.before.requires.0 _ _ read.field_at.ensures.0 field.f.given.1 in
+    let e = met _ _ turn.before.before.before.requires.0 _ _ read.field_at.ensures field.f.given.1 in
     omega (arith, (field-inside _ _ _ e).size_is)
 
 wrong-size-requires : tie.Need-wrong-size-requires invariant-loop decreases-loop
@@ -45,7 +45,7 @@ sub-v c =
     let field = c.before.before.before in
     let read = field.before.before in
     let turn = read.before in
-    let e = met _ _ turn.before.before.before.requires.0 _ _ read.field_at.ensures.0 field.f.given.1 in
+    let e = met _ _ turn.before.before.before.requires.0 _ _ read.field_at.ensures field.f.given.1 in
     omega (arith, (field-inside _ _ _ e).size_is)
 
 part-v-start : tie.Need-slice-bounds-v-start invariant-loop decreases-loop
@@ -53,7 +53,7 @@ part-v-start c =
     let field = c.before.before.before in
     let read = field.before.before in
     let turn = read.before in
-    let e = met _ _ turn.before.before.before.requires.0 _ _ read.field_at.ensures.0 field.f.given.1 in
+    let e = met _ _ turn.before.before.before.requires.0 _ _ read.field_at.ensures field.f.given.1 in
     omega (arith, (field-inside _ _ _ e).size_is)
 
 part-v-end : tie.Need-slice-bounds-v-end invariant-loop decreases-loop
@@ -61,7 +61,7 @@ part-v-end c =
     let field = c.before.before.before in
     let read = field.before.before in
     let turn = read.before in
-    let e = met _ _ turn.before.before.before.requires.0 _ _ read.field_at.ensures.0 field.f.given.1 in
+    let e = met _ _ turn.before.before.before.requires.0 _ _ read.field_at.ensures field.f.given.1 in
     omega (arith, (field-inside _ _ _ e).end-inside)
 
 slot-in-requires : tie.Need-slot-in-requires invariant-loop decreases-loop
@@ -84,7 +84,7 @@ loop-again c =
     let field = c.before.before.before.before.before.before.before in
     let read = field.before.before in
     let turn = read.before in
-    let e = met _ _ turn.before.before.before.requires.0 _ _ read.field_at.ensures.0 field.f.given.1 in
+    let e = met _ _ turn.before.before.before.requires.0 _ _ read.field_at.ensures field.f.given.1 in
     let placed = c.before.before.before.before in
     walk-update _ _ _ _ _ _ _ _ _ _ turn.before.loop.invariant turn.loop-test.true _ e _ placed.before.wrong_size.ensures _ placed.place_of.ensures.0 _ c.before.before.slot-in.ensures _ c.before.update-key.ensures c.if1.true
 
@@ -96,7 +96,7 @@ loop-again-2 c =
     let field = c.before.before.before.before.before.before.before in
     let read = field.before.before in
     let turn = read.before in
-    let e = met _ _ turn.before.before.before.requires.0 _ _ read.field_at.ensures.0 field.f.given.1 in
+    let e = met _ _ turn.before.before.before.requires.0 _ _ read.field_at.ensures field.f.given.1 in
     let placed = c.before.before.before.before in
     walk-on _ _ _ _ _ _ _ _ _ _ turn.before.loop.invariant turn.loop-test.true _ e _ placed.before.wrong_size.ensures _ placed.place_of.ensures.0 _ c.before.before.slot-in.ensures _ c.before.update-key.ensures c.if1.false
 
@@ -112,8 +112,8 @@ returns c =
     let read = told.before.before in
     let turn = read.before in
     let start = turn.before.before.before in
-    let e = met _ _ start.requires.0 _ _ read.field_at.ensures.0 told.e.given.1 in
-    walk-cut _ _ _ _ _ _ _ _ _ _ turn.before.loop.invariant start.requires.1 _ turn.loop-test.true _ e _ c.refused.ensures
+    let e = met _ _ start.requires.0 _ _ read.field_at.ensures told.e.given.1 in
+    refused-is _ _ (walk-cut _ _ _ _ _ _ _ _ _ _ turn.before.loop.invariant start.requires.1 turn.loop-test.true _ e) _ c.refused.ensures
 
 refused-requires-2 : tie.Need-refused-requires-2 invariant-loop decreases-loop
 refused-requires-2 c κs = search rules
@@ -124,21 +124,18 @@ no-entries-requires c κs = search rules
 returns-2 : tie.Need-returns-2 invariant-loop decreases-loop
 returns-2 c =
     let end = c.before.before.before in
-    walk-wrong _ _ _ _ _ _ _ _ _ _ end.before.loop.invariant end.before.before.before.requires.1 end.loop-test.false _ c.before.before.if2.true _ c.before.refused2.ensures _ c.no-entries.ensures
+    walk-wrong _ _ _ _ _ _ _ _ _ _ end.before.loop.invariant end.before.before.before.requires.1 end.loop-test.false c.before.before.if2.true _ c.before.refused2.ensures _ c.no-entries.ensures
 
 read-requires : tie.Need-read-requires invariant-loop decreases-loop
 read-requires c κs = search rules
-
-judged-requires : tie.Need-judged-requires invariant-loop decreases-loop
-judged-requires c κs = search rules
 
 table-of-requires : tie.Need-table-of-requires invariant-loop decreases-loop
 table-of-requires c κs = search rules
 
 returns-3 : tie.Need-returns-3 invariant-loop decreases-loop
 returns-3 c =
-    let end = c.before.before.before.before in
-    walk-right _ _ _ _ _ _ _ _ _ _ end.before.loop.invariant end.before.before.before.requires.1 end.loop-test.false _ c.before.before.before.if2.false _ c.before.before.read.ensures _ c.before.judged.ensures _ c.table_of.ensures
+    let end = c.before.before.before in
+    walk-right _ _ _ _ _ _ _ _ _ _ end.before.loop.invariant end.before.before.before.requires.1 end.loop-test.false c.before.before.if2.false _ c.before.read.ensures _ c.table_of.ensures
 
 pub walk-fields-spec : {M : Type 1} → statement M
 walk-fields-spec =
@@ -171,6 +168,5 @@ walk-fields-spec =
     no-entries-requires
     returns-2
     read-requires
-    judged-requires
     table-of-requires
     returns-3)

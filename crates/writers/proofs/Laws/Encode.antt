@@ -1,7 +1,6 @@
 -- Settings updates written, item by item: the tests before, the sizes, and the stores.
 -- Assumes nothing.
 use Rattle.std.proofs.Common.{◌≡◌, ℕ, suc, ◌+◌, ◌-◌, ◌^◌, ◌<◌, ◌≤◌, Bool, true, false, cond, ◌&&◌, ◌||◌, eqb, ltb, List, [], ◌∷◌, ◌++◌, length, get_or, take, drop, set, ℤ, pos, negsuc, sym, refl, ap, ◌∙◌, append-nil, zero-add, add-one, arith, length-append, length-drop, drop_of_length-le, length-take-le, drop-cons, drop-drop, w16, SFits, to_z, of_z, ltb-false, le-ltb, lt-ltb, eq-eqb, ne_eqb, eqb-true}
-use mathlib.Core.List.{flat_map}
 use lib.Signed.{lt_z}
 use lib.Seq.{sets}
 use mir.ValLaws.{to_z-of_z}
@@ -32,12 +31,12 @@ not-high (negsuc n) f = refl
 -- the rules, from a position on
 module _ (rules : List ℕ) (i : ℕ) where
   pub rules-end : length rules ≤ i → rules_bytes (drop i rules) ≡ []
-  unfolding rules_bytes flat_map
+  unfolding rules_bytes
   rules-end h = rw (drop_of_length-le rules h)
 
   module _ (h : i < length rules) where
     rules-here : rules_bytes (drop i rules) ≡ vlq_bytes (get_or rules i 0) ++ rules_bytes (drop (i + 1) rules)
-    unfolding rules_bytes flat_map
+    unfolding rules_bytes
     rules-here = rw (drop-cons rules i 0 h, add-one)
 
     pub rules-length : length (rules_bytes (drop i rules)) ≡ length (vlq_bytes (get_or rules i 0)) + length (rules_bytes (drop (i + 1) rules))
@@ -106,7 +105,7 @@ agreed ids codes sizes raw e =
 -- the statuses, from a position of the lists and a position of the raw bytes on
 module _ (ids : List ℤ) (codes sizes raw : List ℕ) (i p : ℕ) where
   pub statuses-end : length ids ≤ i → statuses_bytes (status_list (drop i ids) (drop i codes) (drop i sizes) (drop p raw)) ≡ []
-  unfolding status_list statuses_bytes flat_map
+  unfolding status_list statuses_bytes
   statuses-end h = rw (drop_of_length-le ids h)
 
   module _ (a : agree ids codes sizes raw ≡ true) (h : i < length ids) (t : p + sum (drop i sizes) ≡ length raw) where
@@ -127,7 +126,7 @@ module _ (ids : List ℤ) (codes sizes raw : List ℕ) (i p : ℕ) where
 
     statuses-here : statuses_bytes (status_list (drop i ids) (drop i codes) (drop i sizes) (drop p raw))
         ≡ status_bytes here ++ statuses_bytes (status_list (drop (i + 1) ids) (drop (i + 1) codes) (drop (i + 1) sizes) (drop (p + get_or sizes i 0) raw))
-    unfolding status_list statuses_bytes flat_map
+    unfolding status_list statuses_bytes
     statuses-here = rw (drop-cons ids i (pos 0) h, drop-cons codes i 0 codes-too, drop-cons sizes i 0 sizes-too, drop-drop (get_or sizes i 0) p raw, add-one i)
 
     here-length : length (take (get_or sizes i 0) (drop p raw)) ≡ get_or sizes i 0
@@ -154,7 +153,7 @@ statuses-count (i ∷ ids) (c ∷ codes) (n ∷ sizes) raw e f = ap suc (statuse
 
 statuses-length : (ids : List ℤ) (codes sizes raw : List ℕ) → length codes ≡ length ids → length sizes ≡ length ids → sum sizes ≡ length raw
     → length (statuses_bytes (status_list ids codes sizes raw)) ≡ statuses_size ids sizes
-unfolding status_list statuses_bytes statuses_size sum flat_map
+unfolding status_list statuses_bytes statuses_size sum
 statuses-length [] codes sizes raw e f g = refl
 statuses-length (i ∷ ids) [] sizes raw e f g = absurd (omega arith)
 statuses-length (i ∷ ids) (c ∷ codes) [] raw e f g = absurd (omega arith)
@@ -287,7 +286,7 @@ unfolding vlq_bytes shortest_of
 zero-bytes = refl
 
 no-statuses : (rules : List ℕ) → encoded rules [] ≡ vlq_bytes (length rules) ++ rules_bytes rules ++ 0 ∷ []
-unfolding encoded statuses_bytes flat_map
+unfolding encoded statuses_bytes
 no-statuses rules = append-nil (vlq_bytes (length rules) ++ rules_bytes rules ++ vlq_bytes 0) ∙ ap (λ (b : List ℕ). vlq_bytes (length rules) ++ rules_bytes rules ++ b) zero-bytes
 
 module _ (rules cells : List ℕ) where

@@ -1,7 +1,6 @@
 -- What was encoded is read back.
 -- Assumes nothing.
 use Rattle.std.proofs.Common.{◌≡◌, ℕ, suc, ◌+◌, ◌-◌, ◌^◌, ◌<◌, ◌≤◌, false, ltb, List, [], ◌∷◌, ◌++◌, length, get_or, drop, ℤ, pos, negsuc, sym, refl, ap, ◌∙◌, append_assoc, append-nil, add-zero, arith, length-append, length-drop, get_or-drop, w16, SFits, ltb-false, le-ltb, lt-ltb, ne_eqb}
-use mathlib.Core.List.{flat_map}
 use lib.Signed.{lt_z}
 use lib.Seq.{take-append_seam}
 use Rattle.codec.specs.Vlq.{vlq_at, vlq_bytes}
@@ -15,7 +14,7 @@ use Rattle.extension.specs.declared.update.Update.{Update}
 use Rattle.extension.specs.declared.update.ParsedUpdate.{ParsedUpdate}
 use Rattle.extension.specs.Section.{Reading, got, Listing, done, item, after, listing, items, closed, section, section_items, any}
 use Rattle.extension.specs.Mandatory.{mandatory_rule}
-use Rattle.extension.specs.Update.{Status, rule_from, read_rule, sized_from, status_from, read_status, count_in, items_from, with_statuses, with_rules, update_of, rules_in, statuses_in}
+use Rattle.extension.specs.Update.{Status, placed_rule, rule_at, rule_reading, read_rule, placed_status, offset_then, status_at, status_reading, read_status, count_in, items_from, with_statuses, with_rules, update_of, rules_in, statuses_in}
 use Rattle.extension.proofs.Laws.Parts.{drop_past}
 use Rattle.extension.specs.Encode.{rules_bytes, status_bytes, statuses_bytes, encoded, status_list, low_rule, encode_refusal}
 use Rattle.writers.specs.Encode.{EncodedAgain}
@@ -46,28 +45,20 @@ counted read xs s t at end h e l =
     rw (written-read-at 32 (length xs) at s t (omega arith) (omega arith) e, lt-ltb (length xs) (2 ^ 31) (omega arith), l)
     (closed-listed (length xs) (at + length (vlq_bytes (length xs))) xs end)
 
--- items whose bytes stand one after another are read one after another
-all_listed : {A : Type 0} (s : List ℕ) (read : ℕ → Reading A) (bytes : A → List ℕ) (Fits : A → Type 0)
-    → ((a : A) (at : ℕ) (t : List ℕ) → Fits a → drop at s ≡ bytes a ++ t → read at ≡ got a (at + length (bytes a)))
-    → (xs : List A) (at : ℕ) (t : List ℕ) → Each Fits xs → drop at s ≡ flat_map bytes xs ++ t → listing read (length xs) at ≡ listed xs (at + length (flat_map bytes xs))
-unfolding listing after flat_map
-all_listed s read bytes Fits one [] at t h e = ap done (sym (add-zero at))
-all_listed s read bytes Fits one (x ∷ xs) at t h e =
-    let rest = flat_map bytes xs in
-    let e' : drop at s ≡ bytes x ++ (rest ++ t) = e ∙ append_assoc (bytes x) rest t in
-    let more = all_listed s read bytes Fits one xs (at + length (bytes x)) t h.1 (drop_past at s (bytes x) (rest ++ t) e') in
-    let l : at + length (bytes x) + length rest ≡ at + length (bytes x ++ rest) = omega (arith, length-append (bytes x) rest) in
-    rw (one x at (rest ++ t) h.0 e', ← l) (ap (item x) more)
-
 -- one rule, and rules one after another
 rule-read : (r at : ℕ) (s t : List ℕ) → r < 65536 → drop at s ≡ vlq_bytes r ++ t → read_rule s at ≡ got r (at + length (vlq_bytes r))
-unfolding read_rule rule_from
+unfolding read_rule rule_at placed_rule rule_reading
 rule-read r at s t h e = rw (written-read-at 16 r at s t (omega arith) h e)
 
 rules-listed : (rules : List ℕ) (at : ℕ) (s t : List ℕ) → Each (λ r. r < 65536) rules → drop at s ≡ rules_bytes rules ++ t
     → listing (read_rule s) (length rules) at ≡ listed rules (at + length (rules_bytes rules))
-unfolding rules_bytes
-rules-listed rules at s t h e = all_listed s (read_rule s) vlq_bytes (λ r. r < 65536) (λ r k u f i. rule-read r k s u f i) rules at t h e
+unfolding listing after rules_bytes
+rules-listed [] at s t h e = ap done (sym (add-zero at))
+rules-listed (r ∷ rules) at s t h e =
+    let e' : drop at s ≡ vlq_bytes r ++ (rules_bytes rules ++ t) = e ∙ append_assoc (vlq_bytes r) (rules_bytes rules) t in
+    let ih = rules-listed rules (at + length (vlq_bytes r)) s t h.1 (drop_past at s (vlq_bytes r) (rules_bytes rules ++ t) e') in
+    let l : at + length (vlq_bytes r) + length (rules_bytes rules) ≡ at + length (vlq_bytes r ++ rules_bytes rules) = omega (arith, length-append (vlq_bytes r) (rules_bytes rules)) in
+    rw (rule-read r at s (rules_bytes rules ++ t) h.0 e', ← l) (ap (item r) ih)
 
 -- a rule id from 1,000 to 32,767, and at most 65,535 raw bytes
 abbrev pub Writable : Status → Type 0
@@ -80,8 +71,8 @@ rule_fits (negsuc n) e f = absurd (let z : ◌≡◌ {A = ℕ} 0 1 = cc in omega
 
 -- a status where the offset and the size were read
 status-at : (rule : ℤ) (code m : ℕ) (raw s t : List ℕ) → drop m s ≡ code ∷ (raw ++ t)
-    → sized_from s rule (Value (record { value = length raw; next = m })) ≡ got (record { rule = rule; code = code; raw = raw }) (m + 1 + length raw)
-unfolding sized_from
+    → status_reading s (placed_status s rule (Value (record { value = length raw; next = m }))) ≡ got (record { rule = rule; code = code; raw = raw }) (m + 1 + length raw)
+unfolding placed_status status_reading
 status-at rule code m raw s t e =
     let h : m + 1 + length raw ≤ length s = omega (arith, length-drop m s, ap length e, length-append raw t) in
     let c : get_or s m 0 ≡ code = ap (λ (k : ℕ). get_or s k 0) (sym (add-zero m)) ∙ sym (get_or-drop m s 0 0) ∙ ap (λ (l : List ℕ). get_or l 0 0) e in
@@ -90,7 +81,7 @@ status-at rule code m raw s t e =
     rw (le-ltb (length s) (m + 1 + length raw) h, c, n, d, take-append_seam raw t)
 
 status-read : (x : Status) (at : ℕ) (s t : List ℕ) → Writable x → drop at s ≡ status_bytes x ++ t → read_status s at ≡ got x (at + length (status_bytes x))
-unfolding read_status status_from status_bytes
+unfolding read_status status_at offset_then status_bytes
 status-read x at s t h e =
     let a = vlq_bytes (offset_of x.rule) in
     let b = vlq_bytes (length x.raw) in
@@ -110,8 +101,13 @@ status-read x at s t h e =
 
 statuses-listed : (xs : List Status) (at : ℕ) (s t : List ℕ) → Each Writable xs → drop at s ≡ statuses_bytes xs ++ t
     → listing (read_status s) (length xs) at ≡ listed xs (at + length (statuses_bytes xs))
-unfolding statuses_bytes
-statuses-listed xs at s t h e = all_listed s (read_status s) status_bytes Writable (λ x k u f i. status-read x k s u f i) xs at t h e
+unfolding listing after statuses_bytes
+statuses-listed [] at s t h e = ap done (sym (add-zero at))
+statuses-listed (x ∷ xs) at s t h e =
+    let e' : drop at s ≡ status_bytes x ++ (statuses_bytes xs ++ t) = e ∙ append_assoc (status_bytes x) (statuses_bytes xs) t in
+    let ih = statuses-listed xs (at + length (status_bytes x)) s t h.1 (drop_past at s (status_bytes x) (statuses_bytes xs ++ t) e') in
+    let l : at + length (status_bytes x) + length (statuses_bytes xs) ≡ at + length (status_bytes x ++ statuses_bytes xs) = omega (arith, length-append (status_bytes x) (statuses_bytes xs)) in
+    rw (status-read x at s (statuses_bytes xs ++ t) h.0 e', ← l) (ap (item x) ih)
 
 -- the whole update
 module _ (rules : List ℕ) (statuses : List Status) (small : Each (λ r. r < 65536) rules) (few : length rules ≤ 65536) (fit : Each Writable statuses) (few' : length statuses ≤ 65536) where

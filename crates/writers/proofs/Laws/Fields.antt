@@ -2,7 +2,6 @@
 -- Assumes nothing.
 use Rattle.std.proofs.Common.{◌≡◌, ℕ, zero, suc, ◌+◌, ◌-◌, ◌*◌, ◌<◌, ◌≤◌, Bool, true, false, cond, not, eqb, ltb, List, [], ◌∷◌, ◌++◌, length, get_or, take, drop, sym, refl, ap, ◌∙◌, add-zero, add-one, sub-one, arith, length-append, length-drop, drop_of_length-le, length-take-le, get_or-drop, drop-cons, drop-drop, ltb-false, le-ltb, lt-ltb, eq-eqb, ne_eqb, eqb-true}
 use mathlib.Core.Path.{subst⁻¹}
-use mathlib.Core.List.{flat_map}
 use lib.Seq.{take-append_seam, sets}
 use Rattle.codec.specs.Refusal.{field_header_cut, value_cut, input_long, written_value_long}
 use Rattle.codec.specs.Output.{refused, writes}
@@ -95,7 +94,7 @@ no-sizes (a ∷ b ∷ keys) values = refl
 -- the fields, from a position of the lists and a position of the values on
 module _ (keys sizes values : List ℕ) (i p : ℕ) where
   pub fields-end : length sizes ≤ i → fields_bytes (field_list (drop (2 * i) keys) (drop i sizes) (drop p values)) ≡ []
-  unfolding fields_bytes flat_map
+  unfolding fields_bytes
   fields-end h = rw (drop_of_length-le sizes h, no-sizes (drop (2 * i) keys) (drop p values))
 
   module _ (fit : Fitting keys sizes values) (h : i < length sizes) (t : p + sum (drop i sizes) ≡ length values) where
@@ -121,7 +120,7 @@ module _ (keys sizes values : List ℕ) (i p : ℕ) where
 
     fields-here : fields_bytes (field_list (drop (2 * i) keys) (drop i sizes) (drop p values))
         ≡ field_bytes here ++ fields_bytes (field_list (drop (2 * (i + 1)) keys) (drop (i + 1) sizes) (drop (p + get_or sizes i 0) values))
-    unfolding field_list fields_bytes flat_map
+    unfolding field_list fields_bytes
     fields-here = rw (keys-here, drop-cons sizes i 0 h, drop-drop (get_or sizes i 0) p values, add-one i)
 
     here-length : length (take (get_or sizes i 0) (drop p values)) ≡ get_or sizes i 0
@@ -156,7 +155,7 @@ fields-short (a ∷ b ∷ keys) (n ∷ sizes) values e =
 
 pub fields-length : (keys sizes values : List ℕ) → length keys ≡ 2 * length sizes → sum sizes ≡ length values
     → 3 * length sizes + length values ≡ length (fields_bytes (field_list keys sizes values))
-unfolding field_list fields_bytes sum flat_map
+unfolding field_list fields_bytes sum
 fields-length [] [] values e f = omega arith
 fields-length [] (n ∷ sizes) values e f = absurd (omega arith)
 fields-length (a ∷ []) sizes values e f = absurd (omega arith)
@@ -207,7 +206,7 @@ module _ (s : List ℕ) (at : ℕ) (f : Field) (rest : List ℕ) (here : drop at
 
 -- bytes of fields, from a position on, are walked as the fields
 wire-all : (fs : List Field) (s : List ℕ) (k at : ℕ) → drop at s ≡ fields_bytes fs → length s ≤ at + k → Lists fs (wire_list k s at)
-unfolding fields_bytes flat_map
+unfolding fields_bytes
 wire-all [] s k at e h =
     let z : length (drop at s) ≡ 0 = rw e in
     wire-past s k at (omega (arith, length-drop at s, z))

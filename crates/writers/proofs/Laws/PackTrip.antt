@@ -1,9 +1,8 @@
 -- Bodies and parameters there and back: a packed body is read as the fields that were handed over, and parameters that were written are
 -- read back.
 -- Assumes nothing.
-use Rattle.std.proofs.Common.{◌≡◌, ℕ, zero, suc, ◌+◌, ◌-◌, ◌%◌, ◌<◌, ◌≤◌, Bool, true, false, cond, not, ◌&&◌, ◌||◌, eqb, ltb, leb, List, [], ◌∷◌, ◌++◌, length, drop, ℤ, sym, refl, ap, ◌∙◌, subst, add-zero, sub-one, arith, length-append, length-drop, length-set, get_or-set_other, get_or-set_same, take_at, drop_at, w32, SFits, ltb-false, ltb-true, le-ltb, eqb-true, leb-false, leb-true}
+use Rattle.std.proofs.Common.{◌≡◌, ℕ, zero, suc, ◌+◌, ◌-◌, ◌%◌, ◌<◌, ◌≤◌, Bool, true, false, cond, not, ◌&&◌, ◌||◌, eqb, ltb, leb, List, [], ◌∷◌, ◌++◌, length, drop, ℤ, refl, ap, ◌∙◌, subst, add-zero, sub-one, arith, length-append, length-drop, length-set, get_or-set_other, get_or-set_same, take_at, drop_at, w32, SFits, ltb-false, ltb-true, le-ltb, eqb-true, leb-false, leb-true}
 use mathlib.Core.Path.{subst⁻¹}
-use mathlib.Core.List.{flat_map}
 use borrow.Author.Tests.{eqb-false}
 use lib.ListN.{length-replicate, get_or-replicate}
 use lib.Seq.{take-append-le, drop-append-le}
@@ -19,14 +18,11 @@ use Rattle.voting.specs.declared.table.Value.{Value}
 use Rattle.voting.specs.declared.table.Value.TheVariants.{Absent, Number}
 use Rattle.voting.proofs.Laws.Tests.{by-test, neither}
 use Rattle.extension.specs.declared.parameters.ParameterMap.{ParameterMap}
-use Rattle.extension.specs.declared.section.Parsed.{Parsed}
-use Rattle.extension.specs.declared.body.Trailing.{Trailing}
-use Rattle.extension.specs.declared.body.Trailing.TheVariants.{Refused, Ignored}
 use Rattle.extension.specs.Section.{bad, Listing, done, stop, item, listing, items, refusal_of, section, closed, section_items, any}
-use Rattle.extension.specs.Body.{Field, parameter_key, read_field, fields_from, extension_of, extension_as, fields_of, header_id, wrong_size, wrong_parameter, check_body_as}
+use Rattle.extension.specs.Body.{Field, parameter_key, read_field, fields_from, extension_of, fields_of, header_id, wrong_size, wrong_parameter, check_body}
 use Rattle.extension.specs.Parameters.{no_parameters, entry_of, store, number_in, taken, parameters_in, read_parameters, parameters_of}
 use Rattle.extension.proofs.Laws.Section.{listing-item}
-use Rattle.extension.proofs.Laws.Body.{check-body-by, judged-whole, extension-ignored, strict-read}
+use Rattle.extension.proofs.Laws.Body.{check-body-by}
 use Rattle.extension.specs.Pack.{wire_at, wire_list, wire_fields, long_value, pack_refusal, packed}
 use Rattle.extension.proofs.Laws.Pack.{size_at, field_there, wire-header-cut, wire-value-cut, wire-here, value-length, wire-none, wire-end, wire-stop, wire-item}
 use Rattle.extension.proofs.Laws.PackTrip.{field-here, size-there, field-there, Lists, fine, Held, Sound}
@@ -117,21 +113,6 @@ module _ (body : List ℕ) (b : ℕ) where
       (λ i. subst⁻¹ (Reads at) (wire-item s (suc k) at p l (field_there s at) (at + 3 + size_at s at) (wire-here s at i))
       (rw sub-one (one_field at (wire_list k s (at + 3 + size_at s at)) i (reads-wire k (at + 3 + size_at s at))))))
 
--- a list that is not cut is listed to its end
-wire-ends : (s : List ℕ) (k at : ℕ) → at ≤ length s → length s ≤ at + k → refusal_of (wire_list k s at) ≡ 0 → last_of (wire_list k s at) ≡ length s
-unfolding refusal_of
-wire-ends s zero at h m = subst⁻¹ (λ (l : Listing Field). refusal_of l ≡ 0 → last_of l ≡ length s) (wire-none s 0 at (omega arith)) (λ e. omega arith)
-wire-ends s (suc k) at h m =
-    let P : Listing Field → Type 0 = λ l. refusal_of l ≡ 0 → last_of l ≡ length s in
-    let p : 0 < suc k = omega arith in
-    by-test (leb (length s) at) (λ e. subst⁻¹ P (wire-end s (suc k) at p (leb-true (length s) at e)) (λ z. omega (arith, leb-true (length s) at e)))
-    (λ e. let l : at < length s = leb-false (length s) at e in
-    by-wire s at
-    (λ q. subst⁻¹ P (wire-stop s (suc k) at p l field_header_cut q) (λ z. absurd (omega arith)))
-    (λ q. subst⁻¹ P (wire-stop s (suc k) at p l value_cut q) (λ z. absurd (omega arith)))
-    (λ i. subst⁻¹ P (wire-item s (suc k) at p l (field_there s at) (at + 3 + size_at s at) (wire-here s at i))
-    (rw sub-one (wire-ends s k (at + 3 + size_at s at) i (omega arith)))))
-
 -- what a list that is not refused has: at most 65,536 fields, no long value, and no cut
 accepted-fields : (l : Listing Field) → pack_refusal l ≡ 0 → (length (items l) ≤ 65536) × (any long_value (items l) ≡ false) × (refusal_of l ≡ 0)
 unfolding pack_refusal
@@ -182,21 +163,10 @@ module _ (id fields : List ℕ) (l : length id ≡ 32) (ok : pack_refusal (wire_
       rw (le-ltb 65536 (length full) room, le-ltb (length full) 32 long, written-read-at 32 many 32 full fields (omega arith) (omega (arith, f.0)) after-id, reads_all.1)
       (closed-whole many first first (wire_fields fields) reads_all.0)
 
-  to_the_end : length full ≤ first + last_of (wire_fields fields)
-  unfolding packed wire_fields
-  to_the_end =
-      let e = wire-ends fields (length fields) 0 (omega arith) (omega arith) (accepted-fields (wire_fields fields) ok).2 in
-      omega (arith, e, length-append (id ++ vlq_bytes many) fields, front)
-
-  -- so it is read by a strict reader, too
-  strictly : extension_as Refused full ≡ record { refusal = 0; section = section many first (first + last_of (wire_fields fields)) }
-  unfolding extension_as
-  strictly = rw parsed-is (sym (judged-whole Refused (length full) _ refl refl to_the_end))
-
   pub packed-back : PackedBack id fields
   unfolding fields_of header_id section_items packed
   packed-back = record {
-    parsed = ap (λ (x : Parsed). x.refusal) strictly;
+    parsed = rw parsed-is;
     same_id = rw parsed-is (take-append-le 32 (id ++ vlq_bytes many) fields (omega (arith, front)) ∙ take_at id (vlq_bytes many) 32 l);
     same-fields = rw (parsed-is, reads_all.1) (moved-items first (wire_fields fields));
   }
@@ -243,7 +213,7 @@ all_once m (suc n) id = omega (arith, entry-once id (entry_of m id) (fields_for 
 
 -- the bytes of parameters are the bytes of these fields
 entry-is : (id : ℕ) (v : Value) (fs : List Field) → entry_bytes id v ++ fields_bytes fs ≡ fields_bytes (entry_fields id v ++ fs)
-unfolding entry_bytes fields_bytes field_bytes big_endian_bytes flat_map
+unfolding entry_bytes fields_bytes field_bytes big_endian_bytes
 entry-is id Absent fs = refl
 entry-is id (Number z) fs = go (eqb id 124)
   where
@@ -252,7 +222,7 @@ entry-is id (Number z) fs = go (eqb id 124)
     go false = refl
 
 entries-are : (m : ParameterMap) (n id : ℕ) → entries_from n id m ≡ fields_bytes (fields_for n id m)
-unfolding entries_from fields_for fields_bytes flat_map
+unfolding entries_from fields_for fields_bytes
 entries-are m zero id = refl
 entries-are m (suc n) id =
     let next = (id + 1) % 256 in
@@ -395,24 +365,21 @@ module _ (m : ParameterMap) (header : List ℕ) (l : length header ≡ 32) where
   body-fields : fields_of body ≡ fields_for 256 128 m
   body-fields = body_back.same-fields ∙ (parameters-listed m).0
 
-  body-checked : (trailing : Trailing) → check_body_as trailing body ≡ extension_as trailing body
-  body-checked trailing = check-body-by trailing body ∙ rw (body-fields, all_right m 256 128)
-
-  body-lenient : check_body_as Ignored body ≡ extension_of body
-  body-lenient = body-checked Ignored ∙ extension-ignored body
+  body-checked : check_body body ≡ extension_of body
+  body-checked = check-body-by body ∙ rw (body-fields, all_right m 256 128)
 
   body_map : (parameters_of body).map ≡ parameters_in (fields_for 256 128 m) no_parameters
   unfolding parameters_of read_parameters fields_of
-  body_map = rw body-lenient (ap (λ (fs : List Field). parameters_in fs no_parameters) body-fields)
+  body_map = rw body-checked (ap (λ (fs : List Field). parameters_in fs no_parameters) body-fields)
 
   body-read : (parameters_of body).refusal ≡ 0
   unfolding parameters_of read_parameters
-  body-read = rw body-lenient (strict-read body body_back.parsed).read
+  body-read = rw body-checked body_back.parsed
 
   pub parameters-back : Sound m → ParametersBack m header
   parameters-back held = record {
     packs = parameters-pack m;
-    checked = rw (body-checked Refused) body_back.parsed;
+    checked = rw body-checked body_back.parsed;
     read = body-read;
     same = λ id h. rw body_map (parameters-taken m held id h);
   }

@@ -1,11 +1,12 @@
 -- `archive::fork_votes::first_barred` meets its contract. Assumes nothing.
 use native.Mathlib.Omega.{arith}
 use Rattle.archive.proofs.Laws.ForkVotes.{forks-stop, forks-pass, forks-end}
+use Rattle.voting.specs.ForkCheck.{fork_refusal}
 use Rattle.archive.specs.ForkVotes.{fork_refusals, check_fork_votes}
 use Rattle.voting.specs.Tally.{headers}
 use lib.ListN.{drop}
 use Prim.Native.Nat.{◌+◌, ◌-◌, ◌*◌}
-use mathlib.Core.Path.{◌≡◌, ◌∙◌}
+use mathlib.Core.Path.{◌≡◌, ap, ◌∙◌}
 use borrow.Author.Rules.{rules}
 use Rattle.archive.proofs.fork_votes.first_barred.Statement.{statement}
 use Rattle.archive.proofs.fork_votes.first_barred.Tie as tie
@@ -45,7 +46,7 @@ number-requires c κs = search rules
 
 returns : tie.Need-returns invariant-loop decreases-loop
 unfolding check_fork_votes
-returns c = forks-stop _ _ _ _ _ c.before.before.before.before.before.before.loop-test.true _ (c.before.number.ensures ∙ c.before.before.check-fork-vote.ensures.1) c.if1.true ∙ c.before.before.before.before.before.before.before.loop.invariant.1
+returns c = forks-stop _ _ _ _ _ c.before.before.before.before.before.before.loop-test.true _ (c.before.number.ensures ∙ ap fork_refusal c.before.before.check-fork-vote.ensures) c.if1.true ∙ c.before.before.before.before.before.before.before.loop.invariant.1
 
 add-h : tie.Need-overflow-add-h invariant-loop decreases-loop
 add-h c = search rules
@@ -57,7 +58,7 @@ loop-less : tie.Need-loop-smaller invariant-loop decreases-loop
 loop-less c = search rules
 
 loop-again : tie.Need-loop-preserved invariant-loop decreases-loop
-loop-again c = (omega (arith, c.before.before.before.before.before.before.before.loop.invariant.0), forks-pass _ _ _ _ _ c.before.before.before.before.before.before.loop-test.true _ (c.before.number.ensures ∙ c.before.before.check-fork-vote.ensures.1) c.if1.false ∙ c.before.before.before.before.before.before.before.loop.invariant.1)
+loop-again c = (omega (arith, c.before.before.before.before.before.before.before.loop.invariant.0), forks-pass _ _ _ _ _ c.before.before.before.before.before.before.loop-test.true _ (c.before.number.ensures ∙ ap fork_refusal c.before.before.check-fork-vote.ensures) c.if1.false ∙ c.before.before.before.before.before.before.before.loop.invariant.1)
 
 returns-2 : tie.Need-returns-2 invariant-loop decreases-loop
 unfolding check_fork_votes

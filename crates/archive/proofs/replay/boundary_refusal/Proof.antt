@@ -1,6 +1,7 @@
 -- `archive::replay::boundary_refusal` meets its contract. Assumes nothing.
-use mathlib.Core.Path.{◌∙◌}
+use mathlib.Core.Path.{ap, ◌∙◌}
 use Rattle.archive.proofs.Laws.Replay.{boundary-few, boundary-one}
+use Rattle.voting.specs.ForkCheck.{fork_refusal}
 use borrow.Author.Rules.{rules}
 use Rattle.archive.proofs.replay.boundary_refusal.Statement.{statement}
 use Rattle.archive.proofs.replay.boundary_refusal.Tie as tie
@@ -24,7 +25,7 @@ number-requires : tie.Need-number-requires
 number-requires c κs = search rules
 
 returns-2 : tie.Need-returns-2
-returns-2 c = boundary-one _ _ _ c.before.before.before.before.before.before.before.args.votes.now c.before.before.before.before.before.if1.false _ (c.number.ensures ∙ c.before.check-fork-vote.ensures.1)
+returns-2 c = boundary-one _ _ _ c.before.before.before.before.before.before.before.args.votes.now c.before.before.before.before.before.if1.false _ (c.number.ensures ∙ ap fork_refusal c.before.check-fork-vote.ensures)
 
 pub boundary-refusal-spec : {M : Type 1} → statement M
 boundary-refusal-spec =

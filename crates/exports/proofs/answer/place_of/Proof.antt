@@ -1,5 +1,5 @@
 use Rattle.exports.specs.Reply.{answer_of}
-use mathlib.Core.Path.{sym, ◌∙◌}
+use mathlib.Core.Path.{◌≡◌, refl, sym, ap, ◌∙◌}
 use borrow.Author.Rules.{rules}
 use Rattle.exports.proofs.answer.place_of.Statement.{statement}
 use Rattle.exports.proofs.answer.place_of.Tie as tie

@@ -1,7 +1,7 @@
 use mathlib.Core.List.{List}
 use Prim.Native.Nat.{ℕ}
 use Rattle.codec.specs.Output.{writes}
-use mathlib.Core.Path.{ap, ◌∙◌}
+use mathlib.Core.Path.{◌≡◌, refl, sym, ap, ◌∙◌}
 use Rattle.exports.proofs.Laws.{sized-is}
 use borrow.Author.Rules.{rules}
 use Rattle.exports.proofs.body.ergo_extract_disabling_rules_from_kv.Statement.{statement}

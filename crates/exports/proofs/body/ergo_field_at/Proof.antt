@@ -1,6 +1,6 @@
 use Rattle.exports.specs.Reply.{answered}
 use Rattle.exports.specs.Calls.{field_into}
-use mathlib.Core.Path.{refl, sym, ◌∙◌}
+use mathlib.Core.Path.{◌≡◌, refl, sym, ap, ◌∙◌}
 use Rattle.exports.proofs.Laws.{through, numbered_is}
 use borrow.Author.Rules.{rules}
 use Rattle.exports.proofs.body.ergo_field_at.Statement.{statement}
@@ -26,11 +26,11 @@ same_length c = search rules
 
 returns : tie.Need-returns
 unfolding field_into
-returns c = through field_into _ (numbered_is c.before.before.before.write-field.result c.number_of_lem.ensures c.before.before.before.write-field.ensures.0) (sym c.before.before.before.before.before.before.f.given.1 ∙ c.before.before.before.before.before.before.before.before.field_at.ensures.0)
+returns c = through field_into _ (numbered_is c.before.before.before.write-field.result c.number_of_lem.ensures c.before.before.before.write-field.ensures.0) (sym c.before.before.before.before.before.before.f.given.1 ∙ c.before.before.before.before.before.before.before.before.field_at.ensures)
 
 returns-2 : tie.Need-returns-2
 unfolding field_into answered
-returns-2 c = through field_into _ refl (sym c.before.e.given.1 ∙ c.before.before.before.field_at.ensures.0)
+returns-2 c = through field_into _ refl (sym c.before.e.given.1 ∙ c.before.before.before.field_at.ensures)
 
 pub ergo-field-at-spec : {M : Type 1} → statement M
 ergo-field-at-spec =

@@ -1,6 +1,6 @@
 use Rattle.exports.specs.Reply.{sized}
 use Rattle.exports.specs.Calls.{parameters_into}
-use mathlib.Core.Path.{refl, ap, ◌∙◌}
+use mathlib.Core.Path.{◌≡◌, refl, sym, ap, ◌∙◌}
 use Rattle.exports.proofs.Laws.{through-reply, stops-sized, sized-is, goes}
 use borrow.Author.Rules.{rules}
 use Rattle.exports.proofs.body.ergo_parse_parameters_from_kv.Statement.{statement}

@@ -1,3 +1,4 @@
+use mathlib.Core.Path.{◌≡◌, refl, sym, ap, ◌∙◌}
 use borrow.Author.Rules.{rules}
 use Rattle.exports.proofs.boundary.ergo_check_block_version.Statement.{statement}
 use Rattle.exports.proofs.boundary.ergo_check_block_version.Tie as tie

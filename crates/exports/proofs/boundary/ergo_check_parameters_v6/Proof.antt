@@ -4,7 +4,7 @@ use Rattle.extension.specs.Parameters.{check_parameters}
 use Rattle.exports.specs.Reply.{Told}
 use Rattle.exports.specs.Calls.{matched_code}
 use Rattle.extension.specs.declared.parameters.Matched.{Matched}
-use mathlib.Core.Path.{◌≡◌, ap, subst, ◌∙◌}
+use mathlib.Core.Path.{◌≡◌, refl, ap, subst, ◌∙◌}
 use borrow.Author.Rules.{rules}
 use Rattle.exports.proofs.boundary.ergo_check_parameters_v6.Statement.{statement}
 use Rattle.exports.proofs.boundary.ergo_check_parameters_v6.Tie as tie

@@ -9,7 +9,7 @@ use seplogic.Ra.Ura.{Ura}
 use mir.Syntax.{named, w8}
 use mir.Val.{Val}
 use base.Logic.{SProp, ent, emp, via, fst∗, snd∗, ex_e, id⊢}
-use base.Fml.{Lft, Share, ftrue, flft}
+use base.Fml.{Lft, Share, GName, ftrue, flft}
 use prog.Memory.{Memory}
 use prog.Routine.{Routine}
 use prog.Wp.{WpFn, Tables}

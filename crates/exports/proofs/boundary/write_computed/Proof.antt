@@ -1,5 +1,5 @@
 use Rattle.exports.specs.Calls.{computed_into}
-use mathlib.Core.Path.{refl, ◌∙◌}
+use mathlib.Core.Path.{◌≡◌, refl, sym, ap, ◌∙◌}
 use Rattle.exports.proofs.Laws.{stops, numbered_is, goes}
 use borrow.Author.Rules.{rules}
 use Rattle.exports.proofs.boundary.write_computed.Statement.{statement}

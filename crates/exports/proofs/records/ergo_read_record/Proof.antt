@@ -1,7 +1,7 @@
 use Prim.Native.Nat.{ℕ}
 use Rattle.exports.specs.Reply.{reply}
 use Rattle.exports.specs.Calls.{record_reply}
-use mathlib.Core.Path.{refl, sym, ap, ◌∙◌}
+use mathlib.Core.Path.{◌≡◌, refl, sym, ap, ◌∙◌}
 use Rattle.exports.proofs.Laws.{through-reply, placed-is}
 use borrow.Author.Rules.{rules}
 use Rattle.exports.proofs.records.ergo_read_record.Statement.{statement}

@@ -1,7 +1,7 @@
 use Rattle.voting.specs.declared.table.Table.{Table}
 use Rattle.stream.specs.Lines.{epoch_line}
 use Rattle.codec.specs.Output.{writes}
-use mathlib.Core.Path.{ap, ◌∙◌}
+use mathlib.Core.Path.{◌≡◌, refl, sym, ap, ◌∙◌}
 use Rattle.exports.proofs.Laws.{sized-is}
 use borrow.Author.Rules.{rules}
 use Rattle.exports.proofs.records.ergo_write_epoch.Statement.{statement}

@@ -3,7 +3,7 @@ use Rattle.wire.specs.Put.{Written}
 use Rattle.archive.specs.declared.replay.Opened.{Opened}
 use Rattle.archive.specs.Replay.{open_of}
 use Rattle.exports.specs.Calls.{opened_into}
-use mathlib.Core.Path.{◌≡◌, refl, ap, ◌∙◌}
+use mathlib.Core.Path.{◌≡◌, refl, sym, ap, ◌∙◌}
 use Rattle.exports.proofs.Laws.{through, stops, numbered_is, goes, was-written}
 use borrow.Author.Rules.{rules}
 use Rattle.exports.proofs.replay.ergo_open.Statement.{statement}

@@ -1,5 +1,5 @@
 use Rattle.exports.proofs.Laws.{through, stops, numbered_is, goes, was-written}
-use mathlib.Core.Path.{refl, sym, ap, ◌∙◌}
+use mathlib.Core.Path.{◌≡◌, refl, sym, ap, ◌∙◌}
 use Rattle.exports.specs.Calls.{replayed_into}
 use Rattle.archive.specs.Replay.{replay_of}
 use Rattle.archive.specs.declared.replay.Replay.{Replay}

@@ -1,4 +1,4 @@
-use mathlib.Core.Path.{ap}
+use mathlib.Core.Path.{◌≡◌, refl, sym, ap, ◌∙◌}
 use borrow.Author.Rules.{rules}
 use Rattle.exports.proofs.tables.ergo_change_approved.Statement.{statement}
 use Rattle.exports.proofs.tables.ergo_change_approved.Tie as tie

@@ -2,7 +2,7 @@ use Rattle.voting.specs.declared.table.Table.{Table}
 use Rattle.voting.specs.Table.{default_parameters}
 use Rattle.wire.specs.Values.{table_bytes}
 use Rattle.codec.specs.Output.{writes}
-use mathlib.Core.Path.{ap, ◌∙◌}
+use mathlib.Core.Path.{◌≡◌, refl, sym, ap, ◌∙◌}
 use Rattle.exports.proofs.Laws.{numbered_is}
 use borrow.Author.Rules.{rules}
 use Rattle.exports.proofs.tables.ergo_default_parameters.Statement.{statement}

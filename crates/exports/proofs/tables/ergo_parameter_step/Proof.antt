@@ -5,7 +5,7 @@ use mir.ValLaws.{to_z-of_z}
 use Rattle.voting.specs.declared.table.Value.{Value}
 use Rattle.wire.specs.Values.{value_bytes}
 use Rattle.codec.specs.Output.{writes}
-use mathlib.Core.Path.{ap, ◌∙◌}
+use mathlib.Core.Path.{◌≡◌, refl, sym, ap, ◌∙◌}
 use Rattle.exports.proofs.Laws.{numbered_is}
 use borrow.Author.Rules.{rules}
 use Rattle.exports.proofs.tables.ergo_parameter_step.Statement.{statement}

@@ -1,7 +1,7 @@
 use mir.Val.{SFits}
 use mir.Syntax.{w32}
 use mir.ValLaws.{to_z-of_z}
-use mathlib.Core.Path.{ap}
+use mathlib.Core.Path.{◌≡◌, refl, sym, ap, ◌∙◌}
 use borrow.Author.Rules.{rules}
 use Rattle.exports.proofs.tables.ergo_soft_fork_approved.Statement.{statement}
 use Rattle.exports.proofs.tables.ergo_soft_fork_approved.Tie as tie

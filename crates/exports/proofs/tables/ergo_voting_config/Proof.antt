@@ -2,7 +2,7 @@ use Rattle.voting.specs.declared.settings.VotingConfig.{VotingConfig}
 use Rattle.exports.specs.Calls.{settings_of}
 use Rattle.wire.specs.Values.{settings_bytes}
 use Rattle.codec.specs.Output.{writes}
-use mathlib.Core.Path.{ap, ◌∙◌}
+use mathlib.Core.Path.{◌≡◌, refl, sym, ap, ◌∙◌}
 use Rattle.exports.proofs.Laws.{numbered_is}
 use borrow.Author.Rules.{rules}
 use Rattle.exports.proofs.tables.ergo_voting_config.Statement.{statement}

@@ -1,6 +1,6 @@
 use Rattle.exports.specs.Reply.{answered}
 use Rattle.exports.specs.Calls.{rule_into}
-use mathlib.Core.Path.{refl, sym, ◌∙◌}
+use mathlib.Core.Path.{◌≡◌, refl, sym, ap, ◌∙◌}
 use Rattle.exports.proofs.Laws.{through, numbered_is}
 use borrow.Author.Rules.{rules}
 use Rattle.exports.proofs.update.ergo_rule_at.Statement.{statement}
@@ -26,11 +26,11 @@ same_length c = search rules
 
 returns : tie.Need-returns
 unfolding rule_into
-returns c = through rule_into _ (numbered_is c.before.before.before.write-rule.result c.number_of_lem.ensures c.before.before.before.write-rule.ensures.0) (sym c.before.before.before.before.before.before.x.given.1 ∙ c.before.before.before.before.before.before.before.before.rule-at.ensures.0)
+returns c = through rule_into _ (numbered_is c.before.before.before.write-rule.result c.number_of_lem.ensures c.before.before.before.write-rule.ensures.0) (sym c.before.before.before.before.before.before.x.given.1 ∙ c.before.before.before.before.before.before.before.before.rule-at.ensures)
 
 returns-2 : tie.Need-returns-2
 unfolding rule_into answered
-returns-2 c = through rule_into _ refl (sym c.before.e.given.1 ∙ c.before.before.before.rule-at.ensures.0)
+returns-2 c = through rule_into _ refl (sym c.before.e.given.1 ∙ c.before.before.before.rule-at.ensures)
 
 pub ergo-rule-at-spec : {M : Type 1} → statement M
 ergo-rule-at-spec =

@@ -1,6 +1,7 @@
 use mir.Val.{SFits}
 use mir.Syntax.{w32}
 use mir.ValLaws.{to_z-of_z}
+use mathlib.Core.Path.{◌≡◌, refl, sym, ap, ◌∙◌}
 use borrow.Author.Rules.{rules}
 use Rattle.exports.proofs.update.ergo_rule_may_not_be_disabled.Statement.{statement}
 use Rattle.exports.proofs.update.ergo_rule_may_not_be_disabled.Tie as tie

@@ -1,3 +1,4 @@
+use mathlib.Core.Path.{◌≡◌, refl, sym, ap, ◌∙◌}
 use borrow.Author.Rules.{rules}
 use Rattle.exports.proofs.votes.ergo_check_fork_vote.Statement.{statement}
 use Rattle.exports.proofs.votes.ergo_check_fork_vote.Tie as tie
@@ -18,7 +19,7 @@ number-requires : tie.Need-number-requires
 number-requires c κs = search rules
 
 returns : tie.Need-returns
-returns c = rw (c.number.ensures, c.before.check-fork-vote.ensures.1, c.before.before.table_of.ensures, c.before.before.before.votes-of.ensures, c.before.before.before.before.settings-of.ensures)
+returns c = rw (c.number.ensures, c.before.check-fork-vote.ensures, c.before.before.table_of.ensures, c.before.before.before.votes-of.ensures, c.before.before.before.before.settings-of.ensures)
 
 pub ergo-check-fork-vote-spec : {M : Type 1} → statement M
 ergo-check-fork-vote-spec =

@@ -1,3 +1,4 @@
+use mathlib.Core.Path.{◌≡◌, refl, sym, ap, ◌∙◌}
 use borrow.Author.Rules.{rules}
 use Rattle.exports.proofs.votes.ergo_check_header_votes.Statement.{statement}
 use Rattle.exports.proofs.votes.ergo_check_header_votes.Tie as tie

@@ -1,5 +1,5 @@
 use Rattle.exports.specs.Calls.{tallied_into}
-use mathlib.Core.Path.{refl, ◌∙◌}
+use mathlib.Core.Path.{◌≡◌, refl, sym, ap, ◌∙◌}
 use Rattle.exports.proofs.Laws.{through, stops, numbered_is, goes}
 use borrow.Author.Rules.{rules}
 use Rattle.exports.proofs.votes.ergo_tally_votes_seeded.Statement.{statement}

@@ -1,3 +1,4 @@
+use mathlib.Core.Path.{◌≡◌, refl, sym, ap, ◌∙◌}
 use Rattle.exports.proofs.Laws.{sized-is}
 use borrow.Author.Rules.{rules}
 use Rattle.exports.proofs.writing.ergo_encode_validation_settings_update.Statement.{

@@ -1,7 +1,7 @@
 use mathlib.Core.List.{List}
 use Prim.Native.Nat.{ℕ}
 use Rattle.writers.specs.Pack.{pack_extension}
-use mathlib.Core.Path.{ap, ◌∙◌}
+use mathlib.Core.Path.{◌≡◌, refl, sym, ap, ◌∙◌}
 use Rattle.exports.proofs.Laws.{sized-is}
 use borrow.Author.Rules.{rules}
 use Rattle.exports.proofs.writing.ergo_pack_extension_bytes.Statement.{statement}

@@ -1,6 +1,6 @@
 use Rattle.extension.specs.declared.parameters.ParameterMap.{ParameterMap}
 use Rattle.writers.specs.Pack.{pack_parameters}
-use mathlib.Core.Path.{ap, ◌∙◌}
+use mathlib.Core.Path.{◌≡◌, refl, sym, ap, ◌∙◌}
 use Rattle.exports.proofs.Laws.{sized-is}
 use borrow.Author.Rules.{rules}
 use Rattle.exports.proofs.writing.ergo_pack_parameters_to_kv.Statement.{statement}

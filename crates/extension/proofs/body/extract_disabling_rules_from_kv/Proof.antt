@@ -5,8 +5,8 @@ use borrow.Author.Rules.{rules}
 use Rattle.extension.proofs.body.extract_disabling_rules_from_kv.Statement.{statement}
 use Rattle.extension.proofs.body.extract_disabling_rules_from_kv.Tie as tie
 
-fields-of-requires : tie.Need-fields-of-requires
-fields-of-requires c κs = search rules
+parse-extension-bytes-requires : tie.Need-parse-extension-bytes-requires
+parse-extension-bytes-requires c κs = search rules
 
 find-update-requires : tie.Need-find-update-requires
 find-update-requires c κs = search rules
@@ -21,13 +21,13 @@ part-result-end : tie.Need-slice-bounds-result-end
 part-result-end c = search rules
 
 returns : tie.Need-returns
-returns c = c.before.find-update.ensures.is ∙ proposed-is _ _ c.before.before.fields-of.ensures
+returns c = c.before.find-update.ensures.is ∙ proposed-is _ _ c.before.before.parse-extension-bytes.ensures.0
 
 pub extract-disabling-rules-from-kv-spec : {M : Type 1} → statement M
 extract-disabling-rules-from-kv-spec =
     tie.close
     (tie.spec
-    fields-of-requires
+    parse-extension-bytes-requires
     find-update-requires
     sub-result
     part-result-start

@@ -2,6 +2,7 @@
 -- and compares them with the constant. Assumes nothing.
 use mathlib.Core.Path.{refl}
 use Rattle.extension.specs.Mandatory.{mandatory_rule, mandatory_flags}
+use borrow.Author.Rules.{rules}
 use Rattle.extension.proofs.mandatory.mandatory_flags.Statement.{statement}
 use Rattle.extension.proofs.mandatory.mandatory_flags.Tie as tie
 

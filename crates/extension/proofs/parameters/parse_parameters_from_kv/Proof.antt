@@ -4,15 +4,15 @@ use borrow.Author.Rules.{rules}
 use Rattle.extension.proofs.parameters.parse_parameters_from_kv.Statement.{statement}
 use Rattle.extension.proofs.parameters.parse_parameters_from_kv.Tie as tie
 
-check-body-as-requires : tie.Need-check-body-as-requires
-check-body-as-requires c κs = search rules
+check-body-requires : tie.Need-check-body-requires
+check-body-requires c κs = search rules
 
 parameters-in-requires : tie.Need-parameters-in-requires
 parameters-in-requires c κs = search rules
 
 returns : tie.Need-returns
-returns c = parameters-is _ _ c.before.check-body-as.ensures _ c.parameters-in.ensures
+returns c = parameters-is _ _ c.before.check-body.ensures _ c.parameters-in.ensures
 
 pub parse-parameters-from-kv-spec : {M : Type 1} → statement M
 parse-parameters-from-kv-spec =
-    tie.close (tie.spec check-body-as-requires parameters-in-requires returns)
+    tie.close (tie.spec check-body-requires parameters-in-requires returns)

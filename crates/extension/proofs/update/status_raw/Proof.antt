@@ -1,7 +1,6 @@
 -- `extension::update::status_raw` meets its contract. Assumes nothing.
-use mathlib.Core.Path.{sym, ap, ◌∙◌}
+use mathlib.Core.Path.{sym, ◌∙◌}
 use native.Mathlib.Omega.{arith}
-use Rattle.extension.specs.Update.{status_reading}
 use Rattle.extension.proofs.Laws.Update.{raw-inside, raw-is, raw-none}
 use borrow.Author.Rules.{rules}
 use Rattle.extension.proofs.update.status_raw.Statement.{statement}
@@ -14,13 +13,13 @@ enum-known-x : tie.Need-enum-known-x
 enum-known-x c = search rules
 
 sub-result : tie.Need-overflow-sub-result
-sub-result c = let i = raw-inside _ _ _ (sym c.before.x.given.1 ∙ c.before.before.before.status-at.ensures.0) in omega (arith, i.0)
+sub-result c = let i = raw-inside _ _ _ (sym c.before.x.given.1 ∙ c.before.before.before.status-at.ensures) in omega (arith, i.0)
 
 part-result-start : tie.Need-slice-bounds-result-start
-part-result-start c = let i = raw-inside _ _ _ (sym c.before.x.given.1 ∙ c.before.before.before.status-at.ensures.0) in omega (arith, i.0)
+part-result-start c = let i = raw-inside _ _ _ (sym c.before.x.given.1 ∙ c.before.before.before.status-at.ensures) in omega (arith, i.0)
 
 part-result-end : tie.Need-slice-bounds-result-end
-part-result-end c = let i = raw-inside _ _ _ (sym c.before.x.given.1 ∙ c.before.before.before.status-at.ensures.0) in omega (arith, i.1)
+part-result-end c = let i = raw-inside _ _ _ (sym c.before.x.given.1 ∙ c.before.before.before.status-at.ensures) in omega (arith, i.1)
 
 enum_told : tie.Need-enum-told
 enum_told c = search rules
@@ -29,10 +28,10 @@ slice-aggregate-result : tie.Need-slice-aggregate-result
 slice-aggregate-result c = search rules
 
 returns : tie.Need-returns
-returns c = raw-is _ _ _ (ap (status_reading _) (sym c.before.before.x.given.1) ∙ c.before.before.before.before.status-at.ensures.1)
+returns c = raw-is _ _ _ (sym c.before.before.x.given.1 ∙ c.before.before.before.before.status-at.ensures)
 
 returns-2 : tie.Need-returns-2
-returns-2 c = raw-none _ _ _ (ap (status_reading _) (sym c.before.enum_told.given.1) ∙ c.before.before.before.status-at.ensures.1)
+returns-2 c = raw-none _ _ _ (sym c.before.enum_told.given.1 ∙ c.before.before.before.status-at.ensures)
 
 pub status-raw-spec : {M : Type 1} → statement M
 status-raw-spec =

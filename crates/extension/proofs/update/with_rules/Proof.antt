@@ -1,8 +1,8 @@
 -- `extension::update::with_rules` meets its contract. Assumes nothing.
 use Rattle.extension.proofs.Laws.Update.{with-told}
 use Rattle.extension.specs.declared.update.Proposed.{Proposed}
-use Rattle.extension.proofs.Laws.Update.{rules-stop, rules-mandatory, rules-pass, refused_none}
-use mathlib.Core.Path.{◌∙◌, ap}
+use Rattle.extension.proofs.Laws.Update.{rules-stop, rules-mandatory, rules-pass, refused_none, disables-with}
+use mathlib.Core.Path.{◌∙◌, sym, ap}
 use borrow.Author.Rules.{rules}
 use Rattle.extension.proofs.update.with_rules.Statement.{statement}
 use Rattle.extension.proofs.update.with_rules.Tie as tie

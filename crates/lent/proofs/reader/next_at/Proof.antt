@@ -5,19 +5,13 @@ use borrow.Author.Rules.{rules}
 use Rattle.lent.proofs.reader.next_at.Statement.{statement}
 use Rattle.lent.proofs.reader.next_at.Tie as tie
 
-refusal-at-requires : tie.Need-refusal-at-requires
-refusal-at-requires c κs = search rules
-
 returns : tie.Need-returns
-returns c =
-    let said = c.before.refusal-at.ensures in
-    (next-told _ _ _ said c.if1.true, λ h. reads-told _ _ _ said c.if1.true)
+returns c = (next-told _ _ c.if1.true, λ h. reads-told _ _ c.if1.true)
 
 returns-2 : tie.Need-returns-2
 returns-2 c =
     let whole = c.before.before in
-    let said = whole.before.refusal-at.ensures in
-    (next-done _ _ _ said whole.if1.false c.if2.true, λ h. reads-done _ _ _ said whole.if1.false c.if2.true)
+    (next-done _ _ whole.if1.false c.if2.true, λ h. reads-done _ _ whole.if1.false c.if2.true)
 
 field-at-requires : tie.Need-field-at-requires
 field-at-requires c κs = search rules
@@ -40,9 +34,8 @@ returns-3 c =
     let read = told.before.before in
     let some = read.before in
     let whole = some.before.before in
-    let said = whole.before.refusal-at.ensures in
-    let e = sym told.f.given.1 ∙ read.field_at.ensures.0 in
-    (next-found _ _ _ said whole.if1.false some.if2.false _ e _ c.found.ensures, reads-found _ _ _ said whole.if1.false some.if2.false _ e _ c.found.ensures)
+    let e = sym told.f.given.1 ∙ read.field_at.ensures in
+    (next-found _ _ whole.if1.false some.if2.false _ e _ c.found.ensures, reads-found _ _ whole.if1.false some.if2.false _ e _ c.found.ensures)
 
 returns-4 : tie.Need-returns-4
 returns-4 c =
@@ -50,15 +43,13 @@ returns-4 c =
     let read = told.before.before in
     let some = read.before in
     let whole = some.before.before in
-    let said = whole.before.refusal-at.ensures in
-    let e = sym told.e.given.1 ∙ read.field_at.ensures.0 in
-    (next-refused _ _ _ said whole.if1.false some.if2.false _ e, reads-refused _ _ _ said whole.if1.false some.if2.false _ e)
+    let e = sym told.e.given.1 ∙ read.field_at.ensures in
+    (next-refused _ _ whole.if1.false some.if2.false _ e, reads-refused _ _ whole.if1.false some.if2.false _ e)
 
 pub next-at-spec : {M : Type 1} → statement M
 next-at-spec =
     tie.close
     (tie.spec
-    refusal-at-requires
     returns
     returns-2
     field-at-requires

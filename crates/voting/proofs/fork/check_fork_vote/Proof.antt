@@ -1,6 +1,6 @@
 -- `voting::fork::check_fork_vote` meets its contract. Assumes nothing.
 use Rattle.std.proofs.Common.{sym, ◌∙◌, rules}
-use Rattle.voting.proofs.Laws.Fork.{fork-told, check-large, check-silent, check-voting}
+use Rattle.voting.proofs.Laws.Fork.{check-large, check-silent, check-voting}
 use Rattle.voting.proofs.fork.check_fork_vote.Statement.{statement}
 use Rattle.voting.proofs.fork.check_fork_vote.Tie as tie
 
@@ -8,7 +8,7 @@ settings-large-requires : tie.Need-settings-large-requires
 settings-large-requires c κs = search rules
 
 returns : tie.Need-returns
-returns c = fork-told _ _ (check-large _ _ _ _ _ c.before.settings-large.ensures c.if1.true)
+returns c = check-large _ _ _ _ _ c.before.settings-large.ensures c.if1.true
 
 votes-for-requires : tie.Need-votes-for-requires
 votes-for-requires c κs = search rules
@@ -19,12 +19,12 @@ check-round-requires c κs = let b = c.before.before.before in sym b.before.sett
 returns-2 : tie.Need-returns-2
 returns-2 c =
     let b = c.before.before.before in
-    fork-told _ _ (check-voting _ _ _ _ _ b.before.before.settings-large.ensures b.before.if1.false _ b.votes-for.ensures c.before.before.if2.true _ c.check-round.ensures)
+    check-voting _ _ _ _ _ b.before.before.settings-large.ensures b.before.if1.false _ b.votes-for.ensures c.before.before.if2.true _ c.check-round.ensures
 
 returns-3 : tie.Need-returns-3
 returns-3 c =
     let b = c.before in
-    fork-told _ _ (check-silent _ _ _ _ _ b.before.before.settings-large.ensures b.before.if1.false _ b.votes-for.ensures c.if2.false)
+    check-silent _ _ _ _ _ b.before.before.settings-large.ensures b.before.if1.false _ b.votes-for.ensures c.if2.false
 
 pub check-fork-vote-spec : {M : Type 1} → statement M
 check-fork-vote-spec =

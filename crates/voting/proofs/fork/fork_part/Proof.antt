@@ -1,8 +1,9 @@
 -- `voting::fork::fork_part` meets its contract. Assumes nothing.
+use Rattle.voting.specs.ForkPart.{phase_at}
+use Rattle.std.proofs.Common.{ℤ, sym, ap, ◌∙◌, w32, SFits, rules}
 use Rattle.voting.specs.ForkPart.{by_start, running}
 use Rattle.voting.proofs.Laws.Fork.{part-zero, part-large, part_by}
 use mir.ValLaws.{to_z-of_z}
-use Rattle.std.proofs.Common.{sym, ◌∙◌, w32, SFits, rules}
 use Rattle.voting.proofs.fork.fork_part.Statement.{statement}
 use Rattle.voting.proofs.fork.fork_part.Tie as tie
 

@@ -13,7 +13,7 @@ use Rattle.wire.specs.Values.{slots_bytes}
 use Prim.Native.Nat.{◌+◌, ◌-◌, ◌*◌, ◌≤◌}
 use lib.Seq.{sets}
 use lib.ListN.{length, drop}
-use mathlib.Core.Path.{◌≡◌, ap, ◌∙◌}
+use mathlib.Core.Path.{◌≡◌, refl, sym, ap, ◌∙◌}
 use borrow.Author.Rules.{rules}
 use Rattle.wire.proofs.values.put_slots.Statement.{statement}
 use Rattle.wire.proofs.values.put_slots.Tie as tie
