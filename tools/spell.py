@@ -23,7 +23,7 @@ LEMMAS = [
     ("swept_of", ["lent/proofs/boundary/compute_boundary_parameters/Proof.antt"]),
 ]
 STAYS = {"getD", "iN", "nFor", "uN", "xD6", "xD7"}
-WORD = re.compile(r"[A-Za-z_][A-Za-z0-9_']*")
+WORD = re.compile(r"(?<!\\)[A-Za-z_][A-Za-z0-9_']*")
 
 
 def turns(word):

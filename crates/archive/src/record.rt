@@ -15,7 +15,7 @@ const BODY_TAG: u8 = 2;
 const VOTES_TAG: u8 = 3;
 
 // A tagged field: where it ends, or at least how many bytes are missing, or another tag or length than asked for.
-#[derive(Drop)]
+#[derive(Clone, Copy)]
 pub enum TaggedAt {
     Ends(usize),
     More(usize),
@@ -23,7 +23,7 @@ pub enum TaggedAt {
 }
 
 // The height; where the body begins and ends, where the votes begin, and where they and the record end.
-#[derive(Drop)]
+#[derive(Clone, Copy)]
 pub struct RecordPlace {
     pub height: u32,
     pub body: usize,
@@ -32,7 +32,7 @@ pub struct RecordPlace {
     pub end: usize,
 }
 
-#[derive(Drop)]
+#[derive(Clone, Copy)]
 pub enum RecordAt {
     Whole(RecordPlace),
     Short(usize),

@@ -25,7 +25,7 @@ use voting::{fork, header, tally};
 const HEIGHT_LIMIT: u32 = 0x8000_0000;
 
 // Settings, table, the height that is expected next, and the tally of the epoch before.
-#[derive(Drop)]
+#[derive(Clone, Copy)]
 pub struct Replay {
     pub settings: VotingConfig,
     pub table: Table,
@@ -34,7 +34,7 @@ pub struct Replay {
 }
 
 // Accepted, refused by a number, or refused by 15 with the least id that differs.
-#[derive(Drop)]
+#[derive(Clone, Copy)]
 pub enum Verdict {
     Accepted,
     Refused(u8),
@@ -42,14 +42,14 @@ pub enum Verdict {
 }
 
 // The next state; a refused record leaves the state as it was.
-#[derive(Drop)]
+#[derive(Clone, Copy)]
 pub struct Replayed {
     pub verdict: Verdict,
     pub state: Replay,
 }
 
 // A refusal's number, or 0; refused, the state expects no height.
-#[derive(Drop)]
+#[derive(Clone, Copy)]
 pub struct Opened {
     pub refusal: u8,
     pub state: Replay,

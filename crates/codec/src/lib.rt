@@ -1,4 +1,6 @@
 // Number codecs, numbers in print, and what every layer above shares: the refusal numbers and the writing into a lent buffer.
+#![tactic(auto)]
+
 pub mod big_endian;
 pub mod decimal;
 pub mod output;

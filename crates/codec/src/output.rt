@@ -3,7 +3,7 @@ ghost use Rattle.std.specs.Prelude.{◌≡◌, slice_set};
 ghost use Rattle.std.proofs.lemmas.List.Edits.{sets};
 
 // What a call answers that writes into a lent buffer: how many bytes it wrote, or a refusal's number.
-#[derive(Drop)]
+#[derive(Clone, Copy)]
 pub enum Wrote {
     Bytes(usize),
     Refused(u8),

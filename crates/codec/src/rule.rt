@@ -7,10 +7,10 @@ use crate::signed::{bits_i16, i16_of};
 // The rule id of offset 0.
 pub const FIRST_RULE_ID: i16 = 1000;
 
-#[derive(Drop)]
+#[derive(Clone, Copy)]
 pub struct WireOffset(pub u16);
 
-#[derive(Drop)]
+#[derive(Clone, Copy)]
 pub struct RuleId(pub i16);
 
 impl WireOffset {

@@ -8,13 +8,13 @@ use crate::output::Wrote;
 use crate::refusal::OUTPUT_SHORT;
 
 // A number that was read, and the position after its bytes.
-#[derive(Drop)]
+#[derive(Clone, Copy)]
 pub struct Number {
     pub value: u64,
     pub next: usize,
 }
 
-#[derive(Drop)]
+#[derive(Clone, Copy)]
 pub enum Read {
     Value(Number),
     Unreadable,

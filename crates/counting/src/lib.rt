@@ -1,5 +1,7 @@
 // How often a byte stands among bytes. They are counted in blocks of 192: a block's count fits a byte, so the compiler counts sixteen
 // bytes at a time, where a wider sum would take the bytes apart. 192 divides the 3,072 vote bytes of a mainnet epoch, which leaves no rest.
+#![tactic(auto)]
+
 ghost use Rattle.std.specs.Prelude.{◌≡◌, cond, ◌+◌, ◌≤◌, eqb, length, drop};
 ghost use Rattle.counting.specs.Count.{count};
 

@@ -20,7 +20,7 @@ pub const VALUE_MOST: usize = 64;
 pub const ID_SOFT_FORK_DISABLING_RULES: u8 = 124;
 
 // The key's bytes; the value stands from start to end, and the next field at end.
-#[derive(Drop)]
+#[derive(Clone, Copy)]
 pub struct FieldPlace {
     pub key0: u8,
     pub key1: u8,
@@ -28,7 +28,7 @@ pub struct FieldPlace {
     pub end: usize,
 }
 
-#[derive(Drop)]
+#[derive(Clone, Copy)]
 pub enum FieldAt {
     HasField(FieldPlace),
     NoField(u8),

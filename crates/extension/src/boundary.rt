@@ -19,7 +19,7 @@ use voting::tally::Tally;
 pub const SUBBLOCKS_RULE: u16 = 409;
 
 // A refusal's number, or 0; the new table, what happens to a round, and the activated update. Refused: the old table, no event, no update.
-#[derive(Drop)]
+#[derive(Clone, Copy)]
 pub struct Computed {
     pub refusal: u8,
     pub table: Table,

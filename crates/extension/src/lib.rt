@@ -1,4 +1,6 @@
 // The extension body and the settings update: read and matched; and the boundary with the update's bytes.
+#![tactic(auto)]
+
 pub mod body;
 pub mod boundary;
 pub mod mandatory;

@@ -11,20 +11,20 @@ use codec::{big_endian, refusal};
 use voting::table::{Slot, Table, Value};
 
 // One entry for each id byte.
-#[derive(Drop)]
+#[derive(Clone, Copy)]
 pub struct ParameterMap {
     pub entries: [Slot; 256],
 }
 
 // A refusal's number, or 0; refused, every entry is absent.
-#[derive(Drop)]
+#[derive(Clone, Copy)]
 pub struct Parameters {
     pub refusal: u8,
     pub map: ParameterMap,
 }
 
 // 15 and the least id whose entry is missing or different, or 0 and 0.
-#[derive(Drop)]
+#[derive(Clone, Copy)]
 pub struct Matched {
     pub refusal: u8,
     pub id: u8,

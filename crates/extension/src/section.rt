@@ -3,7 +3,7 @@ ghost use Rattle.std.specs.Prelude.{◌≡◌};
 ghost use Rattle.extension.specs.Section.{section, refused_section};
 
 // How many items, and where in the bytes they begin and end.
-#[derive(Drop)]
+#[derive(Clone, Copy)]
 pub struct Section {
     pub count: u32,
     pub begin: usize,
@@ -11,14 +11,14 @@ pub struct Section {
 }
 
 // A refusal's number, or 0; refused, the section is empty.
-#[derive(Drop)]
+#[derive(Clone, Copy)]
 pub struct Parsed {
     pub refusal: u8,
     pub section: Section,
 }
 
 // A start and an end inside the bytes.
-#[derive(Drop)]
+#[derive(Clone, Copy)]
 pub(crate) struct Span {
     pub start: usize,
     pub end: usize,

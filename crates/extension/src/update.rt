@@ -14,20 +14,20 @@ use codec::vlq::Read;
 use codec::{refusal, vlq};
 
 // A rule to disable, and the position after it. On the wire it is its id and no offset.
-#[derive(Drop)]
+#[derive(Clone, Copy)]
 pub struct RulePlace {
     pub id: u16,
     pub next: usize,
 }
 
-#[derive(Drop)]
+#[derive(Clone, Copy)]
 pub enum RuleAt {
     HasRule(RulePlace),
     NoRule(u8),
 }
 
 // The rule's id and the code; the raw bytes stand from start to end, and the next status at end.
-#[derive(Drop)]
+#[derive(Clone, Copy)]
 pub struct StatusPlace {
     pub rule: RuleId,
     pub code: u8,
@@ -35,35 +35,35 @@ pub struct StatusPlace {
     pub end: usize,
 }
 
-#[derive(Drop)]
+#[derive(Clone, Copy)]
 pub enum StatusAt {
     HasStatus(StatusPlace),
     NoStatus(u8),
 }
 
 // The rules and the statuses of an update, by where they stand in its bytes. An empty update has none.
-#[derive(Drop)]
+#[derive(Clone, Copy)]
 pub struct Update {
     pub rules: Section,
     pub statuses: Section,
 }
 
 // A refusal's number, or 0; refused, the update is empty.
-#[derive(Drop)]
+#[derive(Clone, Copy)]
 pub struct ParsedUpdate {
     pub refusal: u8,
     pub update: Update,
 }
 
 // An update, and whether it disables a certain rule.
-#[derive(Drop)]
+#[derive(Clone, Copy)]
 pub struct Proposed {
     pub parsed: ParsedUpdate,
     pub disables: bool,
 }
 
 // The rules of an update, from one pass over them: their section, whether one is mandatory, and whether a certain one is among them.
-#[derive(Drop)]
+#[derive(Clone, Copy)]
 struct Rules {
     parsed: Parsed,
     mandatory: bool,

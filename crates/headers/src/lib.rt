@@ -1,4 +1,6 @@
 // The header check of an epoch's headers. docs/RULES.md, "Replay".
+#![tactic(auto)]
+
 ghost use Rattle.std.specs.Prelude.{◌≡◌, not, eqb, ltb};
 ghost use Rattle.counting.specs.Count.{count};
 ghost use Rattle.headers.specs.Headers.{check_headers};

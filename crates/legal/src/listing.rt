@@ -17,7 +17,7 @@ pub const LINE_MOST: usize = 9;
 const NEWLINE: u8 = 10;
 
 // 21 or 0, the position after the lines, and how many bytes of text stand at the start of the buffer.
-#[derive(Drop)]
+#[derive(Clone, Copy)]
 pub struct Filled {
     pub refusal: u8,
     pub next: NextVotes,

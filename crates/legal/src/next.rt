@@ -9,7 +9,7 @@ use voting::header;
 pub(crate) const TOTAL: u32 = 0x100_0000;
 
 // Three vote bytes, or nothing.
-#[derive(Drop)]
+#[derive(Clone, Copy)]
 pub enum NextVotes {
     Votes(u8, u8, u8),
     Nothing,

@@ -1,5 +1,7 @@
 // Prints the number of every legal header, a number a line, in rising order. docs/RULES.md, "Every legal header". Bytes are only moved here: library
 // `legal` says what stands in a piece, and library `ports` what was handed over.
+#![tactic(auto)]
+
 ghost use Rattle.std.specs.Prelude.{◌≤◌, length};
 ghost use Rattle.legal.specs.Listing.{line_most};
 ghost use Rattle.legal_votes.specs.Prints.{Prints};

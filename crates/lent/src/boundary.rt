@@ -14,7 +14,7 @@ use voting::table::Table;
 use voting::tally::Entry;
 
 // What a boundary is asked, beside the tally of the epoch before and the bytes of the proposed update.
-#[derive(Drop)]
+#[derive(Clone, Copy)]
 pub struct BoundaryAt {
     pub config: VotingConfig,
     pub height: u32,
@@ -23,7 +23,7 @@ pub struct BoundaryAt {
 }
 
 // What is carried through the entries: the update, whether it disables rule 409, and the boundary so far.
-#[derive(Drop)]
+#[derive(Clone, Copy)]
 pub struct Carried {
     pub at: BoundaryAt,
     pub parsed: ParsedUpdate,

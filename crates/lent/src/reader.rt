@@ -7,7 +7,7 @@ use extension::body;
 use extension::body::{FieldAt, FieldPlace};
 
 // The position of the next field, and how many fields are left; or the number by which the body is refused.
-#[derive(Drop)]
+#[derive(Clone, Copy)]
 pub struct Cursor {
     pub at: usize,
     pub left: u32,
@@ -15,20 +15,20 @@ pub struct Cursor {
 }
 
 // Where a field stands, and the cursor after it.
-#[derive(Drop)]
+#[derive(Clone, Copy)]
 pub struct FieldRead {
     pub place: FieldPlace,
     pub cursor: Cursor,
 }
 
-#[derive(Drop)]
+#[derive(Clone, Copy)]
 pub enum NextField {
     Found(FieldRead),
     Refused(u8),
     Done,
 }
 
-#[derive(Drop)]
+#[derive(Clone, Copy)]
 pub struct Reader<'a> {
     pub body: &'a [u8],
     pub cursor: Cursor,

@@ -1,10 +1,12 @@
 // A descriptor that is read and one that is written, each with a value that stands for the bytes that went through it. Only these calls make
 // such a value.
+#![tactic(auto)]
+
 ghost use Rattle.std.specs.Prelude.{◌≡◌, ◌+◌, ◌%◌, ◌^◌, ◌≤◌, false, length, take};
 ghost use Rattle.ports.specs.Ports.{unread, unwritten, read_by, stopped_by, came, wrote, handed_by, sent};
 
 // All that was read so far: its number of bytes, modulo 2^64; and how it ended.
-#[derive(Drop)]
+#[derive(Clone, Copy)]
 pub struct Input {
     descriptor: u32,
     bytes: u64,
@@ -12,7 +14,7 @@ pub struct Input {
 }
 
 // All that was handed over so far: its number of bytes, modulo 2^64; and whether a write failed.
-#[derive(Drop)]
+#[derive(Clone, Copy)]
 pub struct Output {
     descriptor: u32,
     bytes: u64,
@@ -27,21 +29,21 @@ const ENDED: u8 = 1;
 const BROKEN: u8 = 2;
 
 // How many bytes stand at the start of the buffer, 0 at the end of the input; and whether the read failed.
-#[derive(Drop)]
+#[derive(Clone, Copy)]
 pub struct Came {
     pub input: Input,
     pub count: usize,
     pub failed: bool,
 }
 
-#[derive(Drop)]
+#[derive(Clone, Copy)]
 pub struct Sent {
     pub output: Output,
     pub failed: bool,
 }
 
 // How far a text was written, and whether a write failed.
-#[derive(Drop)]
+#[derive(Clone, Copy)]
 struct Put {
     at: usize,
     failed: bool,

@@ -1,5 +1,7 @@
 // Replays records on mainnet, from standard input or from a file, and prints a line for each epoch. docs/RULES.md, "Replay". Bytes are moved by
 // library `replay_io`.
+#![tactic(auto)]
+
 use codec::signed;
 
 const STANDARD_INPUT: u32 = 0;
@@ -10,7 +12,7 @@ const STANDARD_OUTPUT: u32 = 1;
 fn tell(descriptor: i32) {
     io::write_all(
         descriptor,
-        b"replay: replays records of epochs on mainnet, from height 1024 on\n  replay          reads them from standard input\n  replay FILE     reads them from a file\n  replay --help   prints this text\nFor each accepted epoch it prints the height, and entries 123, 122 and 121.\n_the last line is `end N R`: N epochs were accepted; R is 0, or a refusal's number.\n",
+        b"replay: replays records of epochs on mainnet, from height 1024 on\n  replay          reads them from standard input\n  replay FILE     reads them from a file\n  replay --help   prints this text\nFor each accepted epoch it prints the height, and entries 123, 122 and 121.\nThe last line is `end N R`: N epochs were accepted; R is 0, or a refusal's number.\n",
     );
 }
 

@@ -1,5 +1,7 @@
 // Replays records from one descriptor on mainnet and writes what is printed to another. docs/RULES.md, "Replay". Bytes are only moved here:
 // library `stream` says what is taken and what is printed, and library `ports` what was read and handed over.
+#![tactic(auto)]
+
 ghost use Rattle.std.specs.Prelude.{◌≡◌, false, ◌||◌, cond, ◌≤◌, min, ltb, eqb, length};
 ghost use Rattle.codec.specs.Refusal.{output_short};
 ghost use Rattle.voting.specs.Settings.{mainnet};
@@ -18,7 +20,7 @@ use stream::{lines, run};
 pub const MOST: usize = 0x1_0000;
 
 // What was read and handed over; 21 or 0; whether the end of the input was met, a read failed, a write failed, or the input is too long.
-#[derive(Drop)]
+#[derive(Clone, Copy)]
 pub struct Done {
     pub input: Input,
     pub output: Output,
@@ -29,7 +31,7 @@ pub struct Done {
     pub too_long: bool,
 }
 
-#[derive(Drop)]
+#[derive(Clone, Copy)]
 struct Passed {
     run: Run,
     output: Output,

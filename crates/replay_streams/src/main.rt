@@ -1,6 +1,8 @@
 // Runs streams of records. For each name of its arguments it runs the loop of program `replay` on the file NAME.records, with several sizes of
 // the bytes that are read and written at a time, and compares what was written with the file NAME.lines. It prints a line for each name, and
 // how many of them differ. docs/VECTORS.md, "Streams".
+#![tactic(auto)]
+
 use codec::{output, signed};
 
 // What is written goes into a file of the folder that it runs in, whose name is taken away at once.

@@ -35,7 +35,7 @@ pub const MAINNET_LONGEST: usize = RECORD_REST
 
 // The state of the replay, how many epochs were accepted, how many bytes of a record that is not whole stand at the start of the buffer, and
 // whether the reading has ended.
-#[derive(Drop)]
+#[derive(Clone, Copy)]
 pub struct Run {
     pub replay: Replay,
     pub accepted: u32,
@@ -43,20 +43,20 @@ pub struct Run {
     pub over: bool,
 }
 
-#[derive(Drop)]
+#[derive(Clone, Copy)]
 struct EpochPrint {
     height: u32,
     fork: Fork,
 }
 
-#[derive(Drop)]
+#[derive(Clone, Copy)]
 struct EndPrint {
     accepted: u32,
     refusal: u8,
 }
 
 // What is to be printed: nothing, the line of an accepted epoch, or the last line.
-#[derive(Drop)]
+#[derive(Clone, Copy)]
 enum Print {
     Nothing,
     Epoch(EpochPrint),
@@ -64,7 +64,7 @@ enum Print {
 }
 
 // The next state, how many bytes of the piece were taken, and what is to be printed.
-#[derive(Drop)]
+#[derive(Clone, Copy)]
 struct Took {
     run: Run,
     used: usize,
@@ -72,7 +72,7 @@ struct Took {
 }
 
 // 21 or 0, the next state, how many bytes of the piece were taken, and how many bytes of text stand at the start of the output.
-#[derive(Drop)]
+#[derive(Clone, Copy)]
 pub struct Fed {
     pub refusal: u8,
     pub run: Run,

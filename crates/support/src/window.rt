@@ -18,7 +18,7 @@ const ONE_MORE: u16 = 1;
 const ONE_LESS: u16 = 65535;
 
 // How many headers it spans and how many it holds, and the place of the oldest. Its cells go with it.
-#[derive(Drop)]
+#[derive(Clone, Copy)]
 pub struct Window {
     pub length: u16,
     pub held: u16,
@@ -26,7 +26,7 @@ pub struct Window {
 }
 
 // A refusal's number, or 0, and the window after the call.
-#[derive(Drop)]
+#[derive(Clone, Copy)]
 pub struct Answer {
     pub refusal: u8,
     pub window: Window,

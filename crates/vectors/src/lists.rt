@@ -46,7 +46,7 @@ pub(crate) fn count(s: &[u8], size: usize) -> usize {
 }
 
 // The lists of an update that is written; what stands behind the items of each is 0.
-#[derive(Drop)]
+#[derive(Clone, Copy)]
 pub(crate) struct Lists {
     pub rules: [u16; 0x1_0001],
     pub ids: [i16; 0x1_0001],

@@ -1,5 +1,7 @@
 // Runs recorded answers: the rows of the files that its arguments name. It prints each file's name, the lines whose rows differ, and how many
 // rows were run and differ. docs/VECTORS.md has the form of a row.
+#![tactic(auto)]
+
 mod calls;
 mod lists;
 mod row;
@@ -10,7 +12,7 @@ mod text;
 const FILE_MOST: usize = 0x20_0000;
 
 // The lines so far, the rows among them, and how many of those differ.
-#[derive(Drop)]
+#[derive(Clone, Copy)]
 struct Counts {
     pub lines: u64,
     pub rows: u64,

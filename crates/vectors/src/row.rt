@@ -13,7 +13,7 @@ const ANSWER: u8 = 2;
 
 const NOTHING: u8 = 3;
 
-#[derive(Drop)]
+#[derive(Clone, Copy)]
 pub(crate) struct Row {
     // where its name ends in the line, and whether it is `replay`
     pub name: usize,

@@ -19,7 +19,7 @@ const SUBBLOCKS_VERSION: i32 = 4;
 const SUBBLOCKS_AT_FIRST: i32 = 30;
 
 // A refusal's number or 0; the table that goes on, which is the old one where it is refused; and what happens to a round.
-#[derive(Drop)]
+#[derive(Clone, Copy)]
 pub struct Boundary {
     pub refusal: u8,
     pub table: Table,
@@ -57,7 +57,7 @@ pub fn with_subblocks(disabled: bool, t: Table) -> Table
 }
 
 // What is carried through the entries of a tally: whether one for the fork was met and its count, and the ordinary votes so far.
-#[derive(Drop)]
+#[derive(Clone, Copy)]
 pub struct Sweep {
     pub found: bool,
     pub votes: u32,

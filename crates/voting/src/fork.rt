@@ -10,7 +10,7 @@ use crate::table::{Fork, Table, Value};
 use codec::{refusal, signed};
 
 // Whether a header may vote for the fork, or a refusal.
-#[derive(Drop)]
+#[derive(Clone, Copy)]
 pub enum ForkVote {
     Allowed,
     Barred,
@@ -18,7 +18,7 @@ pub enum ForkVote {
 }
 
 // Where a height stands in an open round: at its late or its early closing height, where its votes are collected, where the version rises.
-#[derive(Drop)]
+#[derive(Clone, Copy)]
 pub struct Phase {
     pub late: bool,
     pub early: bool,
@@ -28,7 +28,7 @@ pub struct Phase {
 
 // What happens to a round at a boundary: whether one opens there, whether the open one closes, whether it raises the version, and
 // the total of its votes where that is stored.
-#[derive(Drop)]
+#[derive(Clone, Copy)]
 pub struct Round {
     pub opened: bool,
     pub closed: bool,
@@ -37,14 +37,14 @@ pub struct Round {
 }
 
 // The fork entries, or a refusal's number.
-#[derive(Drop)]
+#[derive(Clone, Copy)]
 pub struct Forked {
     pub refusal: u8,
     pub fork: Fork,
 }
 
 // A refusal's number or 0; the fork entries that go on, which are the old ones where it is refused; and what happens to a round.
-#[derive(Drop)]
+#[derive(Clone, Copy)]
 pub struct ForkPart {
     pub refusal: u8,
     pub fork: Fork,

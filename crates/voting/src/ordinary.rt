@@ -8,7 +8,7 @@ use crate::table::{Table, Value};
 use crate::tally::Entry;
 use codec::refusal;
 
-#[derive(Drop)]
+#[derive(Clone, Copy)]
 pub struct Voted {
     pub refusal: u8,
     pub table: Table,

@@ -5,14 +5,14 @@ ghost use Rattle.voting.specs.Settings.{mainnet, testnet, fork_limit, soft_fork_
 // The voting length of mainnet.
 pub const MAINNET_VOTING_LENGTH: u32 = 1024;
 
-#[derive(Drop)]
+#[derive(Clone, Copy)]
 pub enum Network {
     Mainnet,
     Testnet,
 }
 
 // The voting length L, the vote epochs V, the activation epochs A, and the height at which version 1 becomes 2.
-#[derive(Drop)]
+#[derive(Clone, Copy)]
 pub struct VotingConfig {
     pub voting_length: u32,
     pub soft_fork_epochs: u32,

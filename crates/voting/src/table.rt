@@ -14,19 +14,19 @@ pub const ID_SOFT_FORK_STARTING_HEIGHT: u8 = 122;
 
 pub const ID_BLOCK_VERSION: u8 = 123;
 
-#[derive(Drop)]
+#[derive(Clone, Copy)]
 pub enum Value {
     Absent,
     Number(i32),
 }
 
-#[derive(Drop)]
+#[derive(Clone, Copy)]
 pub struct Slot {
     pub value: Value,
 }
 
 // Entries 121 (votes collected), 122 (starting height) and 123 (block version).
-#[derive(Drop)]
+#[derive(Clone, Copy)]
 pub struct Fork {
     pub votes: Value,
     pub start: Value,
@@ -34,7 +34,7 @@ pub struct Fork {
 }
 
 // Entries 1 to 9 in order, and the three of the fork.
-#[derive(Drop)]
+#[derive(Clone, Copy)]
 pub struct Table {
     pub ordinary: [Slot; 9],
     pub fork: Fork,

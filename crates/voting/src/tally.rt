@@ -5,21 +5,21 @@ ghost use Rattle.voting.specs.Tally.{no_tally, slot_entry, seeded, tally_votes_s
 use codec::{refusal, signed};
 
 #[repr(C)]
-#[derive(Drop)]
+#[derive(Clone, Copy)]
 pub struct Entry {
     pub id: i8,
     pub count: u32,
 }
 
 // One place for each slot of the first header; id 0 is no entry.
-#[derive(Drop)]
+#[derive(Clone, Copy)]
 pub struct Tally {
     pub first: Entry,
     pub second: Entry,
     pub third: Entry,
 }
 
-#[derive(Drop)]
+#[derive(Clone, Copy)]
 pub struct Tallied {
     pub refusal: u8,
     pub tally: Tally,

@@ -1,5 +1,7 @@
 // What a replay asks of a body, from one pass over its fields; and the match of a computed table with what was found.
 // docs/RULES.md, "Extension body and match".
+#![tactic(auto)]
+
 ghost use Rattle.std.specs.Prelude.{◌≡◌, ◌≤◌, length};
 ghost use Rattle.extension.specs.Section.{listing, closed};
 ghost use Rattle.extension.specs.Body.{read_field, extension_of};
@@ -17,7 +19,7 @@ use voting::table::{Fork, Slot, Table, Value};
 
 // The refusal's number and the section of the fields; where the bytes of the proposed update begin and end; and what the body's parameters
 // have of a table's twelve entries. A refused body has no parameters; where only a size is wrong, the update is the one of the fields.
-#[derive(Drop)]
+#[derive(Clone, Copy)]
 pub struct Walked {
     pub parsed: Parsed,
     pub start: usize,

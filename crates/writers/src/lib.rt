@@ -1,4 +1,6 @@
 // Bodies, fields, parameters and settings updates written.
+#![tactic(auto)]
+
 pub mod encode;
 pub mod fields;
 pub mod pack;

@@ -16,7 +16,7 @@ use voting::table::Value;
 pub const FIELDS_MOST: usize = 65536;
 
 // A list of fields, walked to its end or to where it is cut: how many fields, whether one has a long value, and 3, 5 or 0.
-#[derive(Drop)]
+#[derive(Clone, Copy)]
 struct Survey {
     count: usize,
     long: bool,

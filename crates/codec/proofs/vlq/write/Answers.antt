@@ -1,0 +1,9 @@
+use Rattle.codec.proofs.Laws.VlqTrip.{shortest}
+use Rattle.codec.proofs.Laws.Output.{short, done}
+use Rattle.codec.proofs.vlq.write.Goals as goal
+
+pub returns-then-out-n : goal.returns-then-out-n
+returns-then-out-n c = (short _ _ _ c.size-n.ensures c.if-out-n.true, shortest _)
+
+pub returns : goal.returns
+returns c = (done _ _ _ c.size-n.ensures c.if-out-n.false _ c.put.ensures, shortest _)

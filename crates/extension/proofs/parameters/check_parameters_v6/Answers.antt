@@ -1,0 +1,9 @@
+use Rattle.extension.proofs.Laws.Parameters.{matched-none, matched-some}
+use Rattle.extension.proofs.Laws.Matched.{least-carried}
+use Rattle.extension.proofs.parameters.check_parameters_v6.Goals as goal
+
+pub returns-then-id-eq0 : goal.returns-then-id-eq0
+returns-then-id-eq0 c = least-carried _ _ _ (matched-none _ _ _ c.first_differing-id.ensures c.if-id-eq0.true)
+
+pub returns : goal.returns
+returns c = least-carried _ _ _ (matched-some _ _ _ c.first_differing-id.ensures c.if-id-eq0.false)

@@ -1,0 +1,13 @@
+use mathlib.Core.Path.{sym, ◌∙◌}
+use Rattle.codec.proofs.Laws.VlqTrip.{read-inside}
+use Rattle.extension.proofs.Laws.Update.{rule-here, rule-unreadable}
+use Rattle.extension.proofs.update.read_rule.Goals as goal
+
+pub overflow_cast-result : goal.overflow_cast-result
+overflow_cast-result c = record { fits = (read-inside 16 _ _ _ (sym c.in-Value.is ∙ c.read_u16.ensures)).value-fits }
+
+pub returns-in-Value : goal.returns-in-Value
+returns-in-Value c = rule-here _ _ _ (sym c.in-Value.is ∙ c.read_u16.ensures)
+
+pub returns-in-Unreadable : goal.returns-in-Unreadable
+returns-in-Unreadable c = rule-unreadable _ _ (sym c.in-Unreadable.is ∙ c.read_u16.ensures)

@@ -1,0 +1,18 @@
+use Rattle.stream.proofs.Laws.Run.{over-took, used-inside, used-fits, room-took}
+use Rattle.std.proofs.Common.{rules}
+use Rattle.stream.proofs.run.take_record.Goals as goal
+
+pub returns-then-run : goal.returns-then-run
+returns-then-run c = over-took _ _ _ c.if-run.true _ c.taken_all.ensures
+
+pub slice_bounds-put_bytes-end : goal.slice_bounds-put_bytes-end
+slice_bounds-put_bytes-end c = used-inside c.args.run c.args.cells.now c.args.piece.now c.requires.0 c.requires.1 _ c.taken-used.ensures
+
+pub overflow_add-filled : goal.overflow_add-filled
+overflow_add-filled c = let h = used-fits c.args.run c.args.cells.now c.args.piece.now c.requires.0 c.requires.1 _ c.taken-used.ensures in search rules
+
+pub slice_bounds-on_bytes-end : goal.slice_bounds-on_bytes-end
+slice_bounds-on_bytes-end c = let h = used-fits c.args.run c.args.cells.now c.args.piece.now c.requires.0 c.requires.1 _ c.taken-used.ensures in search rules
+
+pub returns : goal.returns
+returns c = room-took c.args.run c.args.cells.now c.args.piece.now c.requires.0 c.requires.1 _ c.taken-used.ensures c.if-run.false _ c.put_bytes.ensures _ c.on_bytes.ensures

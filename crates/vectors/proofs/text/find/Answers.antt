@@ -1,0 +1,9 @@
+use native.Mathlib.Omega.{arith}
+use Prim.Native.Nat.{◌-◌}
+use Rattle.vectors.proofs.text.find.Goals as goal
+
+pub returns-then-s-i : goal.returns-then-s-i
+returns-then-s-i c = (omega arith, λ _. c.loop-i.invariant)
+
+pub returns : goal.returns
+returns c = (omega arith, λ h. h)

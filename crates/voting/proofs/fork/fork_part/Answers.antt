@@ -1,0 +1,26 @@
+use Rattle.voting.specs.ForkPart.{phase_at}
+use Rattle.std.proofs.Common.{sym, ◌∙◌, w32, SFits, rules}
+use Rattle.voting.specs.ForkPart.{by_start, running}
+use Rattle.voting.proofs.Laws.Fork.{part-zero, part-large, part_by}
+use mir.ValLaws.{to_z-of_z}
+use Rattle.voting.proofs.fork.fork_part.Goals as goal
+
+pub returns-then-config-eq0 : goal.returns-then-config-eq0
+returns-then-config-eq0 c = c.fork_refused.ensures ∙ part-zero _ _ _ _ _ c.if-config-eq0.true
+
+pub returns-then-settings_large : goal.returns-then-settings_large
+returns-then-settings_large c = c.fork_refused-then-settings_large.ensures ∙ part-large _ _ _ _ _ c.if-config-eq0.false _ c.settings_large.ensures c.if-settings_large.true
+
+pub phase_at-requires : goal.phase_at-requires
+phase_at-requires c = sym c.settings_large.ensures ∙ c.if-settings_large.false
+
+pub returns-in-Absent : goal.returns-in-Absent
+unfolding by_start
+returns-in-Absent c = part_by _ _ _ _ _ c.if-config-eq0.false _ c.settings_large.ensures c.if-settings_large.false _ c.in-Absent.is _ c.opening.ensures
+
+pub returns-in-Number : goal.returns-in-Number
+unfolding by_start
+returns-in-Number c = let s = c.in-Number.s in
+    let fs : SFits w32 s = search rules in
+    part_by _ _ _ _ _ c.if-config-eq0.false _ c.settings_large.ensures c.if-settings_large.false _ c.in-Number.is _
+    (c.running.ensures ∙ rw (c.phase_at.ensures, to_z-of_z w32 s fs))

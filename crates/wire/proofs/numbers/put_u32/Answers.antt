@@ -1,0 +1,7 @@
+use Rattle.wire.proofs.Back.{number-back}
+use Rattle.wire.proofs.Laws.{number_put}
+use borrow.Author.Rules.{rules}
+use Rattle.wire.proofs.numbers.put_u32.Goals as goal
+
+pub returns : goal.returns
+returns c = (number_put _ c.put_bytes.ensures, number-back _ (search rules))

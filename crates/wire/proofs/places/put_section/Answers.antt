@@ -1,0 +1,12 @@
+use Rattle.wire.specs.Places.{section_bytes}
+use Rattle.wire.proofs.Back.{section-back}
+use Rattle.wire.proofs.Laws.{joined}
+use borrow.Author.Rules.{rules}
+use Rattle.wire.proofs.places.put_section.Goals as goal
+
+pub returns : goal.returns
+unfolding section_bytes
+returns c = let count = c.put_u32 in (
+      joined (joined count.ensures.0 c.put_usize.ensures) c.put_usize-2.ensures,
+      section-back _ (search rules),
+    )

@@ -1,0 +1,13 @@
+use Rattle.wire.specs.Places.{update_bytes}
+use Rattle.wire.proofs.Back.{update-back}
+use Rattle.wire.proofs.Laws.{joined}
+use borrow.Author.Rules.{rules}
+use Rattle.wire.proofs.places.put_update.Goals as goal
+
+pub returns : goal.returns
+unfolding update_bytes
+returns c = let rules = c.put_section in
+    let statuses = c.put_section-2 in (
+      joined rules.ensures.0 statuses.ensures.0,
+      λ r s. update-back _ rules.ensures.0.long (rules.ensures.1 r) (statuses.ensures.1 s),
+    )

@@ -1,0 +1,6 @@
+use Rattle.wire.specs.Places.{section_at}
+use Rattle.wire.proofs.places.section_at.Goals as goal
+
+pub returns : goal.returns
+unfolding section_at
+returns c = rw (c.u32_at-count.ensures, c.u32_at-begin.ensures, c.u32_at-end.ensures)

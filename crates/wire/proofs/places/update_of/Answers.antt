@@ -1,0 +1,6 @@
+use Rattle.wire.specs.Places.{update_at}
+use Rattle.wire.proofs.places.update_of.Goals as goal
+
+pub returns : goal.returns
+unfolding update_at
+returns c = rw (c.section_at-rules.ensures, c.section_at-statuses.ensures)

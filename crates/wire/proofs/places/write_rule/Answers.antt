@@ -1,0 +1,8 @@
+use Rattle.wire.specs.Places.{rule_bytes}
+use Rattle.wire.proofs.Laws.{handed, joined}
+use borrow.Author.Rules.{rules}
+use Rattle.wire.proofs.places.write_rule.Goals as goal
+
+pub returns : goal.returns
+unfolding rule_bytes
+returns c = let put = joined c.put_u32.ensures.0 c.put_usize.ensures in (handed put (search rules) _ c.write_bytes.ensures, put.long)

@@ -1,0 +1,9 @@
+use Rattle.wire.proofs.Back.{reads-back}
+use Rattle.wire.proofs.Laws.{handed}
+use borrow.Author.Rules.{rules}
+use Rattle.wire.proofs.places.write_section.Goals as goal
+
+pub returns : goal.returns
+returns c = let put = c.put_section in
+    let e = handed put.ensures.0 (search rules) _ c.write_bytes.ensures in
+    (e, (λ w n. reads-back (put.ensures.1 n) c.write_bytes.result _ _ e w, put.ensures.0.long))

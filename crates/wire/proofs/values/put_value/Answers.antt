@@ -1,0 +1,19 @@
+use mir.Val.{SFits}
+use Rattle.wire.proofs.Back.{absent-back, present-back}
+use Rattle.codec.specs.Signed.{bits_of}
+use mathlib.Core.Path.{ap, ◌∙◌}
+use mir.ValLaws.{to_z-of_z}
+use mir.Syntax.{w32}
+use Rattle.wire.proofs.Laws.{renamed, absent-bytes, number-bytes}
+use borrow.Author.Rules.{rules}
+use Rattle.wire.proofs.values.put_value.Goals as goal
+
+pub returns-in-Absent : goal.returns-in-Absent
+returns-in-Absent c = let e = c.in-Absent.is in
+    (renamed (absent-bytes _ e) c.put_marked.ensures, absent-back _ e)
+
+pub returns-in-Number : goal.returns-in-Number
+returns-in-Number c = let z = c.in-Number.z in
+    let e = c.in-Number.is in
+    let f : SFits w32 z = search rules in
+    (renamed (number-bytes _ z _ e (c.bits_i32.ensures ∙ ap (bits_of 32) (to_z-of_z w32 z f))) c.put_marked-in-Number.ensures, present-back _ z e f)

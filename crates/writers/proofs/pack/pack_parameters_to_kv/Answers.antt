@@ -1,0 +1,17 @@
+use Rattle.codec.proofs.Laws.Output.{short, done}
+use Rattle.extension.specs.Parameters.{entry_of}
+use Rattle.writers.specs.Pack.{pack_parameters}
+use Rattle.writers.proofs.Laws.PackTrip.{parameters-back}
+use Rattle.extension.proofs.Laws.PackTrip.{all_held}
+use Rattle.writers.proofs.pack.pack_parameters_to_kv.Goals as goal
+
+pub returns-then-out-n : goal.returns-then-out-n
+unfolding pack_parameters entry_of
+returns-then-out-n c = (short _ _ _ c.entries_size-n.ensures c.if-out-n.true, λ header l. parameters-back c.args.params header l (all_held c.args.params.entries _ b.well-formed.0.1.1.0.1.1{-?-}))
+
+pub returns : goal.returns
+unfolding pack_parameters entry_of
+returns c = (
+      done _ _ _ c.entries_size-n.ensures c.if-out-n.false _ c.put_entries.ensures,
+      λ header l. parameters-back c.args.params header l (all_held c.args.params.entries _ s.well-formed.0.1.1.0.1.1{-?-}),
+    )

@@ -1,0 +1,20 @@
+use Rattle.std.proofs.Common.{◌≡◌, ℤ, sym, ap, ◌∙◌, w32, SFits, rules}
+use lib.Seq.{sets}
+use mir.ValLaws.{to_z-of_z}
+use Rattle.codec.specs.Signed.{bits_of}
+use Rattle.codec.specs.BigEndian.{big_endian_bytes}
+use Rattle.writers.proofs.Laws.Pack.{entry_absent, entry-dropped, entry-number}
+use Rattle.writers.proofs.pack.put_entry.Goals as goal
+
+pub returns-then-id-eq-ID_SOFT_FORK_DISABLING_RULES : goal.returns-then-id-eq-ID_SOFT_FORK_DISABLING_RULES
+returns-then-id-eq-ID_SOFT_FORK_DISABLING_RULES c = sym (ap (sets c.args.out.now c.args.at) (entry-dropped _ _ _ c.in-Number.is c.if-id-eq-ID_SOFT_FORK_DISABLING_RULES.true))
+
+pub returns-in-Absent : goal.returns-in-Absent
+returns-in-Absent c = sym (ap (sets c.args.out.now c.args.at) (entry_absent _ _ c.in-Absent.is))
+
+pub returns-else-id-eq-ID_SOFT_FORK_DISABLING_RULES : goal.returns-else-id-eq-ID_SOFT_FORK_DISABLING_RULES
+unfolding big_endian_bytes
+returns-else-id-eq-ID_SOFT_FORK_DISABLING_RULES c = let v = c.value-1.given in
+    let f : SFits w32 v.0.0 = search rules in
+    let four : c.i32_to_be_bytes-b.result ≡ big_endian_bytes 4 (bits_of 32 v.0.0) = c.i32_to_be_bytes-b.ensures.0 ∙ ap (λ (z : ℤ). big_endian_bytes 4 (bits_of 32 z)) (to_z-of_z w32 v.0.0 f) in
+    c.put_bytes.ensures ∙ rw (four, entry-number _ _ _ v.1 c.if-id-eq-ID_SOFT_FORK_DISABLING_RULES.false)

@@ -1,0 +1,18 @@
+use Rattle.std.proofs.Common.{◌-◌, sym, ap, ◌∙◌}
+use Rattle.extension.specs.declared.parameters.ParameterMap.{ParameterMap}
+use Rattle.extension.specs.Parameters.{table_ids}
+use Rattle.writers.specs.Tables.{entries_in, table_parameters}
+use Rattle.writers.proofs.Laws.Tables.{entries-end, entries_next, table-carried}
+use Rattle.writers.proofs.tables.table_parameters.Goals as goal
+
+pub loop-k-init : goal.loop-k-init
+unfolding table_parameters
+loop-k-init c = ap (λ (m : ParameterMap). entries_in c.args.table table_ids m) c.no_parameters-m.ensures
+
+pub loop-k-preserved : goal.loop-k-preserved
+unfolding table_ids
+loop-k-preserved c = sym (entries_next _ _ _ c.loop-k-test.true c.get-v.ensures c.with-m.ensures) ∙ c.loop-k.invariant
+
+pub returns : goal.returns
+returns c = let e = sym (entries-end _ _ _ c.loop-k-test.false) ∙ c.loop-k.invariant in
+    (e, table-carried _ _ e)
