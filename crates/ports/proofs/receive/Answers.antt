@@ -8,4 +8,4 @@ pub returns-then-n-eq0 : goal.returns-then-n-eq0
 returns-then-n-eq0 c = end-met c.args.input _ _ c.stopped-then-n-eq0.ensures
 
 pub returns : goal.returns
-returns c = received c.args.input _ _ _ c.reached.ensures c.if-n-eq0.false c.count-n.ensures.0
+returns c = received c.args.input _ _ _ c.reached.ensures c.if-n-eq0.false c.count-n.ensures.in_bounds

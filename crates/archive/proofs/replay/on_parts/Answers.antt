@@ -13,4 +13,4 @@ after_boundary-requires c = (early-low _ _ _ _ c.early_refusal-e.ensures c.if-e-
 
 pub returns : goal.returns
 returns c = c.after_boundary.ensures
-    ∙ parts-pass _ _ _ _ _ c.early_refusal-e.ensures c.if-e-ne0.false _ c.walk_body-w.ensures c.if-n-ne0.false _ c.boundary_votes-vote.ensures _ c.boundary_with_update-b.ensures.0
+    ∙ parts-pass _ _ _ _ _ c.early_refusal-e.ensures c.if-e-ne0.false _ c.walk_body-w.ensures c.if-n-ne0.false _ c.boundary_votes-vote.ensures _ c.boundary_with_update-b.ensures.value

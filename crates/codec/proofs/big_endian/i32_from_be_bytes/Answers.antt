@@ -7,10 +7,10 @@ use Rattle.codec.proofs.Laws.BigEndian.{bytes_back}
 use Rattle.codec.proofs.big_endian.i32_from_be_bytes.Goals as goal
 
 pub returns : goal.returns
-returns c = let bs = c.args.t1 in
+returns c = let bs = c.args.bytes in
     let l : length bs ≡ 4 = search rules in
     let n = c.joined.result in
-    let v : to_z w32 (of_z w32 c.i32_of.result) ≡ signed_of 32 n = to_z-of_z w32 c.i32_of.result (search rules) ∙ c.i32_of.ensures in (
-      v ∙ ap (signed_of 32) (c.joined.ensures.0 ∙ ap big_endian (all-elements 4 bs l)),
-      ap (λ (z : ℤ). big_endian_bytes 4 (bits_of 32 z)) v ∙ bytes_back n (search rules) ∙ c.joined.ensures.1 ∙ all-elements 4 bs l,
-    )
+    let v : to_z w32 (of_z w32 c.i32_of.result) ≡ signed_of 32 n = to_z-of_z w32 c.i32_of.result (search rules) ∙ c.i32_of.ensures in record {
+      value = v ∙ ap (signed_of 32) (c.joined.ensures.value ∙ ap big_endian (all-elements 4 bs l));
+      back = ap (λ (z : ℤ). big_endian_bytes 4 (bits_of 32 z)) v ∙ bytes_back n (search rules) ∙ c.joined.ensures.back ∙ all-elements 4 bs l;
+    }

@@ -9,4 +9,7 @@ pub returns : goal.returns
 returns c = let x = c.args.x in
     let f : SFits w32 x = c.ranges.x in
     let is = four_bytes_lem c.bits_i32-n.result ∙ ap (big_endian_bytes 4) (c.bits_i32-n.ensures ∙ ap (bits_of 32) (to_z-of_z w32 x f)) in
-    (is, ap (λ (bs : List ℕ). signed_of 32 (big_endian bs)) is ∙ number-back x f)
+    record {
+      value = is;
+      back = ap (λ (bs : List ℕ). signed_of 32 (big_endian bs)) is ∙ number-back x f;
+    }

@@ -10,4 +10,7 @@ is-joined c = omega arith
 pub returns : goal.returns
 returns c = let a = c.args in
     let h = four-small a.a a.b a.c a.d (search rules) (search rules) (search rules) (search rules) in
-    (is-joined c, ap (big_endian_bytes 4) (is-joined c) ∙ bytes-of-number (a.a ∷ a.b ∷ a.c ∷ a.d ∷ []) h)
+    record {
+      value = is-joined c;
+      back = ap (big_endian_bytes 4) (is-joined c) ∙ bytes-of-number (a.a ∷ a.b ∷ a.c ∷ a.d ∷ []) h;
+    }

@@ -6,7 +6,9 @@ pub slice_bounds-put_bytes-end : goal.slice_bounds-put_bytes-end
 slice_bounds-put_bytes-end c = part_length _ _ _ _ _ c.put_most-k.ensures (omega arith) (search rules)
 
 pub returns : goal.returns
-returns c = let p = c.put_most-k.ensures in (
-      omega (arith, p.ends),
-      (handed-on _ _ _ _ _ p (omega arith) _ _ _ c.put_bytes.ensures, (digits_decimal _ _ (search rules), omega (arith, p.small))),
-    )
+returns c = let p = c.put_most-k.ensures in record {
+      value = omega (arith, p.ends);
+      cells = handed-on _ _ _ _ _ p (omega arith) _ _ _ c.put_bytes.ensures;
+      decimal = digits_decimal _ _ (search rules);
+      most = omega (arith, p.small);
+    }

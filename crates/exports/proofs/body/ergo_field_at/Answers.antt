@@ -6,7 +6,7 @@ use Rattle.exports.proofs.body.ergo_field_at.Goals as goal
 
 pub returns-in-HasField : goal.returns-in-HasField
 unfolding field_into
-returns-in-HasField c = through field_into _ (numbered_is c.write_field.result c.number_of.ensures c.write_field.ensures.0) (sym c.in-HasField.is ∙ c.field_at.ensures)
+returns-in-HasField c = through field_into _ (numbered_is c.write_field.result c.number_of.ensures c.write_field.ensures.out_after) (sym c.in-HasField.is ∙ c.field_at.ensures)
 
 pub returns-in-NoField : goal.returns-in-NoField
 unfolding field_into answered

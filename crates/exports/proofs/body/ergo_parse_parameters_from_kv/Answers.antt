@@ -10,4 +10,4 @@ returns-then-x-ne0 c = through-reply (λ x cells. sized (parameters_into x cells
 
 pub returns : goal.returns
 unfolding parameters_into
-returns c = through-reply (λ x cells. sized (parameters_into x cells)) _ (sized-is c.write_map.result c.size_of.ensures (c.write_map.ensures.0 ∙ goes _ _ refl _ _ c.if-x-ne0.false)) c.parse_parameters_from_kv-x.ensures
+returns c = through-reply (λ x cells. sized (parameters_into x cells)) _ (sized-is c.write_map.result c.size_of.ensures (c.write_map.ensures.out_after ∙ goes _ _ refl _ _ c.if-x-ne0.false)) c.parse_parameters_from_kv-x.ensures

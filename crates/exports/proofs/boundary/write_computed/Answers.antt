@@ -9,4 +9,4 @@ returns-then-x-ne0 c = stops _ _ refl _ _ c.if-x-ne0.true
 
 pub returns : goal.returns
 unfolding computed_into
-returns c = numbered_is c.write_computed.result c.number_of.ensures (c.write_computed.ensures.0 ∙ goes _ _ refl _ _ c.if-x-ne0.false)
+returns c = numbered_is c.write_computed.result c.number_of.ensures (c.write_computed.ensures.out_after ∙ goes _ _ refl _ _ c.if-x-ne0.false)

@@ -9,4 +9,4 @@ use Rattle.exports.proofs.tables.ergo_table_parameters.Goals as goal
 pub returns : goal.returns
 returns c = let cells = c.args.out.now in
     sized-is c.write_map.result c.size_of.ensures
-    (c.write_map.ensures.0 ∙ ap (λ (m : ParameterMap). writes (map_bytes m) cells) (c.table_parameters-m.ensures.0 ∙ ap table_parameters c.table_of-t.ensures))
+    (c.write_map.ensures.out_after ∙ ap (λ (m : ParameterMap). writes (map_bytes m) cells) (c.table_parameters-m.ensures.value ∙ ap table_parameters c.table_of-t.ensures))

@@ -7,4 +7,4 @@ use Rattle.exports.proofs.Laws.{numbered_is}
 use Rattle.exports.proofs.tables.ergo_voting_config.Goals as goal
 
 pub returns : goal.returns
-returns c = numbered_is c.write_settings.result c.number_of.ensures (c.write_settings.ensures.0 ∙ ap (λ (g : VotingConfig). writes (settings_bytes g) c.args.out.now) (c.config_of-g.ensures ∙ ap settings_of c.network_of.ensures))
+returns c = numbered_is c.write_settings.result c.number_of.ensures (c.write_settings.ensures.out_after ∙ ap (λ (g : VotingConfig). writes (settings_bytes g) c.args.out.now) (c.config_of-g.ensures ∙ ap settings_of c.network_of.ensures))

@@ -6,7 +6,7 @@ use Rattle.exports.proofs.update.ergo_rule_at.Goals as goal
 
 pub returns-in-HasRule : goal.returns-in-HasRule
 unfolding rule_into
-returns-in-HasRule c = through rule_into _ (numbered_is c.write_rule.result c.number_of.ensures c.write_rule.ensures.0) (sym c.in-HasRule.is ∙ c.rule_at.ensures)
+returns-in-HasRule c = through rule_into _ (numbered_is c.write_rule.result c.number_of.ensures c.write_rule.ensures.out_after) (sym c.in-HasRule.is ∙ c.rule_at.ensures)
 
 pub returns-in-NoRule : goal.returns-in-NoRule
 unfolding rule_into answered

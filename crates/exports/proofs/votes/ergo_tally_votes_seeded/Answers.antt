@@ -9,4 +9,4 @@ returns-then-x-ne0 c = through tallied_into _ (stops _ _ refl _ _ c.if-x-ne0.tru
 
 pub returns : goal.returns
 unfolding tallied_into
-returns c = through tallied_into _ (numbered_is c.write_tally.result c.number_of.ensures (c.write_tally.ensures.0 ∙ goes _ _ refl _ _ c.if-x-ne0.false)) c.tally_votes_seeded-x.ensures
+returns c = through tallied_into _ (numbered_is c.write_tally.result c.number_of.ensures (c.write_tally.ensures.out_after ∙ goes _ _ refl _ _ c.if-x-ne0.false)) c.tally_votes_seeded-x.ensures

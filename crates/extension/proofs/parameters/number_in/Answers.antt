@@ -10,4 +10,4 @@ use Rattle.extension.proofs.parameters.number_in.Goals as goal
 pub returns : goal.returns
 unfolding number_in
 returns c = let f : SFits w32 c.i32_from_be_bytes.result = search rules in
-    ap Number (to_z-of_z w32 _ f ∙ c.i32_from_be_bytes.ensures.0)
+    ap Number (to_z-of_z w32 _ f ∙ c.i32_from_be_bytes.ensures.value)

@@ -4,5 +4,8 @@ use Rattle.lent.specs.Reader.{Begins}
 use Rattle.lent.proofs.reader.cursor_of.Goals as goal
 
 pub returns : goal.returns
-returns c = let is = cursor-is _ _ c.parse_extension_bytes-x.ensures.0 in
-    (is, subst (Begins _) (sym is) (begins _))
+returns c = let is = cursor-is _ _ c.parse_extension_bytes-x.ensures.value in
+    record {
+      value = is;
+      begins = subst (Begins _) (sym is) (begins _);
+    }

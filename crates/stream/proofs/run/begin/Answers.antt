@@ -3,4 +3,7 @@ use Rattle.stream.proofs.Laws.Driven.{begins}
 use Rattle.stream.proofs.run.begin.Goals as goal
 
 pub returns : goal.returns
-returns c = (refl, begins _)
+returns c = record {
+      value = refl;
+      begins = begins _;
+    }

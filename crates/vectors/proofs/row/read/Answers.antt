@@ -3,4 +3,4 @@ use native.Mathlib.Omega.{arith}
 use Rattle.vectors.proofs.row.read.Goals as goal
 
 pub loop-from-smaller : goal.loop-from-smaller
-loop-from-smaller c = omega (arith, c.find-to.ensures.1 (omega (arith, c.loop-from-test.true)), c.loop-from-test.true)
+loop-from-smaller c = omega (arith, c.find-to.ensures.onward (omega (arith, c.loop-from-test.true)), c.loop-from-test.true)

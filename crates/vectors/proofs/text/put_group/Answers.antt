@@ -3,4 +3,4 @@ use Prim.Native.Nat.{◌-◌}
 use Rattle.vectors.proofs.text.put_group.Goals as goal
 
 pub loop-from-smaller : goal.loop-from-smaller
-loop-from-smaller c = omega (arith, c.find-plus.ensures.1 c.loop-from-test.true, c.find-plus.ensures.0)
+loop-from-smaller c = omega (arith, c.find-plus.ensures.onward c.loop-from-test.true, c.find-plus.ensures.upper_bound)

@@ -22,4 +22,4 @@ pub returns : goal.returns
 returns c = let f = c.ranges.start in
     shifted_sum c.args.start c.wrapping_add_u32-s.result (c.args.length * c.args.k)
     (shifted c.args.start f c.wrapping_add_u32-s.result
-    (c.wrapping_add_u32-s.ensures ∙ ap (λ (m : ℕ). (m + 2147483648) % 4294967296) (c.bits_i32.ensures ∙ ap (bits_of 32) (to_z-of_z w32 c.args.start f))))
+    (c.wrapping_add_u32-s.ensures.value ∙ ap (λ (m : ℕ). (m + 2147483648) % 4294967296) (c.bits_i32.ensures ∙ ap (bits_of 32) (to_z-of_z w32 c.args.start f))))

@@ -5,6 +5,6 @@ use Rattle.voting.proofs.header.votes_for.Goals as goal
 
 pub returns : goal.returns
 unfolding votes_for
-returns c = let bs = c.args.t2 in
+returns c = let bs = c.args.votes in
     let l : length bs ≡ 3 = search rules in
     ap (ltb 0) c.times.ensures ∙ ap (votes_for c.args.vote) (all-elements 3 bs l)

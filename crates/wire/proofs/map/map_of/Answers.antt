@@ -15,7 +15,7 @@ unfolding number_in
 loop-at-preserved c = let l = c.loop-at in
     let bytes = c.args.bytes.now in
     let f : SFits w32 c.i32_from_be_bytes-z.result = search rules in
-    let v = ap Number (to_z-of_z w32 _ f ∙ c.i32_from_be_bytes-z.ensures.0) in
+    let v = ap Number (to_z-of_z w32 _ f ∙ c.i32_from_be_bytes-z.ensures.value) in
     (search rules, in_one bytes l.m l.at c.loop-at-test.true c.with-m.ensures v ∙ l.invariant.1)
 
 pub returns : goal.returns

@@ -12,4 +12,4 @@ returns-in-Absent c = sym (ap (sets c.args.out.now c.args.at) (present-none _ _ 
 pub returns-in-Number : goal.returns-in-Number
 returns-in-Number c = let v = c.v-1.given in
     let f : SFits w32 v.0.0 = search rules in
-    c.put_bytes.ensures ∙ present-stored _ _ _ f v.1 c.i32_to_be_bytes-b.ensures.0 _ _
+    c.put_bytes.ensures ∙ present-stored _ _ _ f v.1 c.i32_to_be_bytes-b.ensures.value _ _

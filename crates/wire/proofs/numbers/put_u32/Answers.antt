@@ -4,4 +4,7 @@ use borrow.Author.Rules.{rules}
 use Rattle.wire.proofs.numbers.put_u32.Goals as goal
 
 pub returns : goal.returns
-returns c = (number_put _ c.put_bytes.ensures, number-back _ (search rules))
+returns c = record {
+      put = number_put _ c.put_bytes.ensures;
+      back = number-back _ (search rules);
+    }

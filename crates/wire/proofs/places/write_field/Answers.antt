@@ -5,4 +5,7 @@ use Rattle.wire.proofs.places.write_field.Goals as goal
 
 pub returns : goal.returns
 unfolding field_bytes
-returns c = let put = c.put_four.ensures in (handed put (search rules) _ c.write_bytes.ensures, put.long)
+returns c = let put = c.put_four.ensures in record {
+      out_after = handed put (search rules) _ c.write_bytes.ensures;
+      size = put.long;
+    }

@@ -15,4 +15,7 @@ returns c = let z = c.args.x.rule.0 in
     let f : SFits w16 z = search rules in
     let e = c.bits_i16-bits.ensures ∙ ap (bits_of 16) (to_z-of_z w16 z f) in
     let put = renamed (four_same _ _ _ _ _ _ (ap number_bytes e) refl) c.put_four.ensures in
-    (handed put (search rules) _ c.write_bytes.ensures, put.long)
+    record {
+      out_after = handed put (search rules) _ c.write_bytes.ensures;
+      size = put.long;
+    }

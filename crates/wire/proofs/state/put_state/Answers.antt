@@ -8,7 +8,7 @@ unfolding state_bytes
 returns c = let settings = c.put_settings in
     let table = c.put_table in
     let next = c.put_u32 in
-    let tally = c.put_tally in (
-      joined (joined (joined settings.ensures.0 table.ensures.0) next.ensures.0) tally.ensures.0,
-      state-back _ settings.ensures.0.long table.ensures.0.long settings.ensures.1 table.ensures.1 next.ensures.1 tally.ensures.1,
-    )
+    let tally = c.put_tally in record {
+      put = joined (joined (joined settings.ensures.0 table.ensures.0) next.ensures.0) tally.ensures.0;
+      back = state-back _ settings.ensures.0.long table.ensures.0.long settings.ensures.1 table.ensures.1 next.ensures.1 tally.ensures.1;
+    }

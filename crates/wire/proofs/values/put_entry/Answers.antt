@@ -11,4 +11,7 @@ use Rattle.wire.proofs.values.put_entry.Goals as goal
 pub returns : goal.returns
 returns c = let e = c.args.e in
     let f : SFits w8 e.id = search rules in
-    (renamed (entry-bytes e _ (c.bits_i8.ensures ∙ ap (bits_of 8) (to_z-of_z w8 e.id f))) c.put_marked.ensures, entry-back e f (search rules))
+    record {
+      put = renamed (entry-bytes e _ (c.bits_i8.ensures ∙ ap (bits_of 8) (to_z-of_z w8 e.id f))) c.put_marked.ensures;
+      back = entry-back e f (search rules);
+    }

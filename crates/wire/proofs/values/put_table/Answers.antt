@@ -5,4 +5,7 @@ use Rattle.wire.proofs.values.put_table.Goals as goal
 
 pub returns : goal.returns
 unfolding table_bytes
-returns c = (joined c.put_slots.ensures.0 c.put_fork.ensures.0, table-back _ c.put_slots.ensures.0.long c.put_slots.ensures.1 c.put_fork.ensures.1)
+returns c = record {
+      put = joined c.put_slots.ensures.put c.put_fork.ensures.put;
+      back = table-back _ c.put_slots.ensures.put.long c.put_slots.ensures.back c.put_fork.ensures.back;
+    }

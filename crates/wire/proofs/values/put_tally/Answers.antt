@@ -5,4 +5,7 @@ use Rattle.wire.proofs.values.put_tally.Goals as goal
 
 pub returns : goal.returns
 unfolding tally_bytes
-returns c = (joined (joined c.put_entry.ensures.0 c.put_entry-2.ensures.0) c.put_entry-3.ensures.0, tally-back _ c.put_entry.ensures.1 c.put_entry-2.ensures.1 c.put_entry-3.ensures.1)
+returns c = record {
+      put = joined (joined c.put_entry.ensures.put c.put_entry-2.ensures.put) c.put_entry-3.ensures.put;
+      back = tally-back _ c.put_entry.ensures.back c.put_entry-2.ensures.back c.put_entry-3.ensures.back;
+    }

@@ -10,10 +10,16 @@ use Rattle.wire.proofs.values.put_value.Goals as goal
 
 pub returns-in-Absent : goal.returns-in-Absent
 returns-in-Absent c = let e = c.in-Absent.is in
-    (renamed (absent-bytes _ e) c.put_marked.ensures, absent-back _ e)
+    record {
+      put = renamed (absent-bytes _ e) c.put_marked.ensures;
+      back = absent-back _ e;
+    }
 
 pub returns-in-Number : goal.returns-in-Number
 returns-in-Number c = let z = c.in-Number.z in
     let e = c.in-Number.is in
     let f : SFits w32 z = search rules in
-    (renamed (number-bytes _ z _ e (c.bits_i32.ensures ∙ ap (bits_of 32) (to_z-of_z w32 z f))) c.put_marked-in-Number.ensures, present-back _ z e f)
+    record {
+      put = renamed (number-bytes _ z _ e (c.bits_i32.ensures ∙ ap (bits_of 32) (to_z-of_z w32 z f))) c.put_marked-in-Number.ensures;
+      back = present-back _ z e f;
+    }

@@ -6,4 +6,8 @@ use Rattle.wire.proofs.values.write_value.Goals as goal
 pub returns : goal.returns
 returns c = let put = c.put_value in
     let e = handed put.ensures.0 (search rules) _ c.write_bytes.ensures in
-    (e, (reads-back put.ensures.1 c.write_bytes.result _ _ e, put.ensures.0.long))
+    record {
+      out_after = e;
+      reads_back = reads-back put.ensures.1 c.write_bytes.result _ _ e;
+      size = put.ensures.0.long;
+    }

@@ -6,7 +6,10 @@ use Rattle.writers.proofs.Laws.Encode.{low-test, not-high}
 use Rattle.writers.proofs.encode.any_low.Goals as goal
 
 pub returns-then-ids-i-lt-FIRST_RULE_ID : goal.returns-then-ids-i-lt-FIRST_RULE_ID
-returns-then-ids-i-lt-FIRST_RULE_ID c = (sym (any_found low_rule _ _ (pos 0) c.loop-i-test.true (low-test _ true (record { sfits = c.t6-1.given }) c.if-ids-i-lt-FIRST_RULE_ID.true)) ∙ c.loop-i.invariant.1, λ e. absurd (true≢false e))
+returns-then-ids-i-lt-FIRST_RULE_ID c = record {
+      value = sym (any_found low_rule _ _ (pos 0) c.loop-i-test.true (low-test _ true (record { sfits = c.t6-1.given }) c.if-ids-i-lt-FIRST_RULE_ID.true)) ∙ c.loop-i.invariant.1;
+      fit = λ e. absurd (true≢false e);
+    }
 
 pub loop-i-preserved : goal.loop-i-preserved
 loop-i-preserved c = let l = c.loop-i in
@@ -20,4 +23,7 @@ loop-i-preserved c = let l = c.loop-i in
 
 pub returns : goal.returns
 returns c = let l = c.loop-i in
-    (sym (any-end low_rule _ _ c.loop-i-test.false) ∙ l.invariant.1, λ e. l.invariant.2 (any-end (lt_z (pos 32767)) _ _ c.loop-i-test.false))
+    record {
+      value = sym (any-end low_rule _ _ c.loop-i-test.false) ∙ l.invariant.1;
+      fit = λ e. l.invariant.2 (any-end (lt_z (pos 32767)) _ _ c.loop-i-test.false);
+    }

@@ -8,10 +8,13 @@ use Rattle.writers.proofs.encode.encode_validation_settings_update.Goals as goal
 
 pub returns-then-e-ne0 : goal.returns-then-e-ne0
 returns-then-e-ne0 c = let r = c.encode_refusal-e.ensures in
-    (update-refused _ _ _ _ _ r.0 c.if-e-ne0.true _, update-back _ _ _ _ _ (λ i. (c.shared_slice_known-1.given i).fits) r.0 r.1)
+    record {
+      out_after = update-refused _ _ _ _ _ r.0 c.if-e-ne0.true _;
+      back = update-back _ _ _ _ _ (λ i. (c.shared_slice_known-1.given i).fits) r.0 r.1;
+    }
 
 pub rules_size-requires : goal.rules_size-requires
-rules_size-requires c = (accepted c.args.rules.now c.args.ids.now c.args.codes.now c.args.sizes.now c.args.raw.now c.encode_refusal-e.ensures.0 c.if-e-ne0.false).few-rules
+rules_size-requires c = (accepted c.args.rules.now c.args.ids.now c.args.codes.now c.args.sizes.now c.args.raw.now c.encode_refusal-e.ensures.value c.if-e-ne0.false).few-rules
 
 pub overflow_add-second : goal.overflow_add-second
 overflow_add-second c = omega (arith, c.rules_size.ensures, c.size-first.ensures, at-most-ten (length c.args.rules.now))
@@ -20,7 +23,7 @@ pub overflow_add-third : goal.overflow_add-third
 overflow_add-third c = omega (arith, c.rules_size.ensures, c.size-first.ensures, c.size.ensures, at-most-ten (length c.args.rules.now), at-most-ten (length c.args.ids.now))
 
 pub statuses_size-requires : goal.statuses_size-requires
-statuses_size-requires c = (accepted c.args.rules.now c.args.ids.now c.args.codes.now c.args.sizes.now c.args.raw.now c.encode_refusal-e.ensures.0 c.if-e-ne0.false).few-ids
+statuses_size-requires c = (accepted c.args.rules.now c.args.ids.now c.args.codes.now c.args.sizes.now c.args.raw.now c.encode_refusal-e.ensures.value c.if-e-ne0.false).few-ids
 
 pub overflow_add-need : goal.overflow_add-need
 overflow_add-need c = let a = c.args in
@@ -35,16 +38,16 @@ returns-then-out-need c = let a = c.args in
     let raw = a.raw.now in
     let r = c.encode_refusal-e.ensures in
     let q = r.0 in
-    let e = c.if-e-ne0.false in (
-      short (encoded rules (status_list ids codes sizes raw)) a.out.now _
+    let e = c.if-e-ne0.false in record {
+      out_after = short (encoded rules (status_list ids codes sizes raw)) a.out.now _
           (update-size rules ids codes sizes raw (accepted rules ids codes sizes raw q e).agrees c.size-first.ensures c.rules_size.ensures.0 c.size.ensures c.statuses_size.ensures.0)
           c.if-out-need.true ∙
-          update-written rules ids codes sizes raw q e a.out.now,
-      update-back rules ids codes sizes raw (λ i. (c.shared_slice_known-1.given i).fits) q r.1,
-    )
+          update-written rules ids codes sizes raw q e a.out.now;
+      back = update-back rules ids codes sizes raw (λ i. (c.shared_slice_known-1.given i).fits) q r.1;
+    }
 
 pub put_statuses-requires : goal.put_statuses-requires
-put_statuses-requires c = (accepted c.args.rules.now c.args.ids.now c.args.codes.now c.args.sizes.now c.args.raw.now c.encode_refusal-e.ensures.0 c.if-e-ne0.false).agrees
+put_statuses-requires c = (accepted c.args.rules.now c.args.ids.now c.args.codes.now c.args.sizes.now c.args.raw.now c.encode_refusal-e.ensures.value c.if-e-ne0.false).agrees
 
 pub returns : goal.returns
 returns c = let a = c.args in
@@ -62,9 +65,9 @@ returns c = let a = c.args in
     let pk = c.size.ensures in
     let p₁ = c.put.ensures in
     let p₂ = c.put_rules.ensures in
-    let p₃ = c.put-2.ensures in (
-      done (encoded rules (status_list ids codes sizes raw)) a.out.now _ (update-size rules ids codes sizes raw g pf pr pk c.statuses_size.ensures.0) c.if-out-need.false _
+    let p₃ = c.put-2.ensures in record {
+      out_after = done (encoded rules (status_list ids codes sizes raw)) a.out.now _ (update-size rules ids codes sizes raw g pf pr pk c.statuses_size.ensures.0) c.if-out-need.false _
           (update-put rules ids codes sizes raw g pf pr pk a.out.now p₁ p₂ p₃ c.put_statuses.ensures) ∙
-          update-written rules ids codes sizes raw q e a.out.now,
-      update-back rules ids codes sizes raw (λ i. (c.shared_slice_known-1.given i).fits) q r.1,
-    )
+          update-written rules ids codes sizes raw q e a.out.now;
+      back = update-back rules ids codes sizes raw (λ i. (c.shared_slice_known-1.given i).fits) q r.1;
+    }

@@ -26,5 +26,5 @@ overflow_add-third-2 c = let y = at-most-ten c.wire_offset-wire.result.0 in
 pub returns : goal.returns
 returns c = let a = c.args in
     status-put a.out.now a.at (record { rule = a.rule.0; code = a.code; raw = a.raw.now })
-    c.wire_offset-wire.ensures.0 c.size.ensures c.size-2.ensures
+    c.wire_offset-wire.ensures.result_value c.size.ensures c.size-2.ensures
     c.put.ensures c.put-2.ensures c.put-3.ensures c.put_bytes.ensures

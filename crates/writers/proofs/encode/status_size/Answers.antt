@@ -13,4 +13,4 @@ pub overflow_add-result-3 : goal.overflow_add-result-3
 overflow_add-result-3 c = omega (arith, c.size.ensures, c.size-2.ensures, at-most-ten c.wire_offset-offset.result.0, at-most-ten c.args.size, c.ranges.size)
 
 pub returns : goal.returns
-returns c = status-size c.args.rule.0 c.args.size (omega (arith, c.ranges.size)) c.wire_offset-offset.ensures.0 c.size.ensures c.size-2.ensures
+returns c = status-size c.args.rule.0 c.args.size (omega (arith, c.ranges.size)) c.wire_offset-offset.ensures.result_value c.size.ensures c.size-2.ensures

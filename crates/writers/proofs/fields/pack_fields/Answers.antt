@@ -8,7 +8,10 @@ use Rattle.writers.proofs.fields.pack_fields.Goals as goal
 
 pub returns-then-e-ne0 : goal.returns-then-e-ne0
 returns-then-e-ne0 c = let a = c.args in
-    (fields-refused a.keys.now a.sizes.now a.values.now c.fields_refusal-e.ensures a.out.now c.if-e-ne0.true, fields_back a.keys.now a.sizes.now a.values.now)
+    record {
+      out_after = fields-refused a.keys.now a.sizes.now a.values.now c.fields_refusal-e.ensures a.out.now c.if-e-ne0.true;
+      reads_back = fields_back a.keys.now a.sizes.now a.values.now;
+    }
 
 pub overflow_mul-n : goal.overflow_mul-n
 overflow_mul-n c = let a = c.args in
@@ -24,7 +27,10 @@ pub returns-then-out-n : goal.returns-then-out-n
 returns-then-out-n c = let a = c.args in
     let q = c.fields_refusal-e.ensures in
     let f = fitting a.keys.now a.sizes.now a.values.now (sym q ∙ c.if-e-ne0.false) in
-    (short (fields_bytes (field_list a.keys.now a.sizes.now a.values.now)) a.out.now _ (fields-length a.keys.now a.sizes.now a.values.now f.2 f.3) c.if-out-n.true ∙ fields-written a.keys.now a.sizes.now a.values.now q a.out.now c.if-e-ne0.false, fields_back a.keys.now a.sizes.now a.values.now)
+    record {
+      out_after = short (fields_bytes (field_list a.keys.now a.sizes.now a.values.now)) a.out.now _ (fields-length a.keys.now a.sizes.now a.values.now f.2 f.3) c.if-out-n.true ∙ fields-written a.keys.now a.sizes.now a.values.now q a.out.now c.if-e-ne0.false;
+      reads_back = fields_back a.keys.now a.sizes.now a.values.now;
+    }
 
 pub put_fields-requires : goal.put_fields-requires
 put_fields-requires c = let a = c.args in
@@ -33,8 +39,8 @@ put_fields-requires c = let a = c.args in
 pub returns : goal.returns
 returns c = let a = c.args in
     let q = c.fields_refusal-e.ensures in
-    let f = fitting a.keys.now a.sizes.now a.values.now (sym q ∙ c.if-e-ne0.false) in (
-      done (fields_bytes (field_list a.keys.now a.sizes.now a.values.now)) a.out.now _ (fields-length a.keys.now a.sizes.now a.values.now f.2 f.3) c.if-out-n.false _ c.put_fields.ensures ∙
-          fields-written a.keys.now a.sizes.now a.values.now q a.out.now c.if-e-ne0.false,
-      fields_back a.keys.now a.sizes.now a.values.now,
-    )
+    let f = fitting a.keys.now a.sizes.now a.values.now (sym q ∙ c.if-e-ne0.false) in record {
+      out_after = done (fields_bytes (field_list a.keys.now a.sizes.now a.values.now)) a.out.now _ (fields-length a.keys.now a.sizes.now a.values.now f.2 f.3) c.if-out-n.false _ c.put_fields.ensures ∙
+          fields-written a.keys.now a.sizes.now a.values.now q a.out.now c.if-e-ne0.false;
+      reads_back = fields_back a.keys.now a.sizes.now a.values.now;
+    }

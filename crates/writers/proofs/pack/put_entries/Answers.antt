@@ -16,7 +16,7 @@ loop-left-preserved c = let l = c.loop-left in
     let r = entry-most l.id c.get-v.result in (
       search rules,
       omega (arith, l.invariant.1, c.entry_size-at.ensures, r, c.loop-left-test.true),
-      sym (put_one _ _ _ c.loop-left-test.true c.get-v.ensures c.entry_size-at.ensures c.wrapping_add_u8-id.ensures _ _ c.put_entry.ensures) ∙ l.invariant.2,
+      sym (put_one _ _ _ c.loop-left-test.true c.get-v.ensures c.entry_size-at.ensures c.wrapping_add_u8-id.ensures.value _ _ c.put_entry.ensures) ∙ l.invariant.2,
     )
 
 pub returns : goal.returns

@@ -15,4 +15,7 @@ loop-k-preserved c = sym (entries_next _ _ _ c.loop-k-test.true c.get-v.ensures 
 
 pub returns : goal.returns
 returns c = let e = sym (entries-end _ _ _ c.loop-k-test.false) ∙ c.loop-k.invariant in
-    (e, table-carried _ _ e)
+    record {
+      value = e;
+      carried = table-carried _ _ e;
+    }
