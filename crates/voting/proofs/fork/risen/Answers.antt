@@ -1,3 +1,5 @@
+use mathlib.Core.Bool.{not}
+use Rattle.std.proofs.Common.{ap}
 use Rattle.voting.proofs.Laws.Fork.{version-stays, version-absent, version-next}
 use Rattle.voting.specs.ForkPart.{one_more, risen}
 use mir.ValLaws.{to_z-of_z}
@@ -6,11 +8,11 @@ use Rattle.voting.proofs.fork.risen.Goals as goal
 
 pub returns-then-not-rise : goal.returns-then-not-rise
 unfolding risen
-returns-then-not-rise c = version-stays one_more _ _ c.if-not-rise.true
+returns-then-not-rise c = version-stays one_more _ _ (ap not c.if-not-rise.true)
 
 pub returns-in-Absent : goal.returns-in-Absent
 unfolding risen
-returns-in-Absent c = version-absent one_more _ _ c.if-not-rise.false c.in-Absent.is
+returns-in-Absent c = version-absent one_more _ _ (ap not c.if-not-rise.false) c.in-Absent.is
 
 pub returns-in-Number : goal.returns-in-Number
 unfolding risen
@@ -18,4 +20,4 @@ returns-in-Number c = let z = c.in-Number.z in
     let fz : SFits w32 z = search rules in
     let n = c.one_more.result in
     let fn : SFits w32 n = search rules in
-    c.with_version.ensures ∙ version-next one_more _ _ c.if-not-rise.false z _ c.in-Number.is (to_z-of_z w32 n fn ∙ c.one_more.ensures ∙ rw (to_z-of_z w32 z fz))
+    c.with_version.ensures ∙ version-next one_more _ _ (ap not c.if-not-rise.false) z _ c.in-Number.is (to_z-of_z w32 n fn ∙ c.one_more.ensures ∙ rw (to_z-of_z w32 z fz))

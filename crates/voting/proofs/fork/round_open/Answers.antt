@@ -6,10 +6,8 @@ pub returns-in-Absent : goal.returns-in-Absent
 returns-in-Absent c = open_none _ _ _ _ c.in-Absent.is
 
 pub returns-in-Absent-votes : goal.returns-in-Absent-votes
-returns-in-Absent-votes c = let s = c.start-1.given in open-orphan _ _ _ _ s.0.0 s.1 c.in-Absent-votes.is
+returns-in-Absent-votes c = open-orphan _ _ _ _ c.in-Number.s c.in-Number.is c.in-Absent-votes.is
 
 pub returns-in-Number-votes : goal.returns-in-Number-votes
-returns-in-Number-votes c = let s = c.start-1.given in
-    let n = c.enum_told-in-Number-votes-1.given in
-    let fs : SFits w32 s.0.0 = search rules in
-    open-below _ _ _ _ s.0.0 s.1 n.0.0 n.1 _ (plain _ _ _ _ fs c.epochs_after-from.ensures)
+returns-in-Number-votes c = let fs : SFits w32 c.in-Number.s = search rules in
+    open-below _ _ _ _ c.in-Number.s c.in-Number.is c.in-Number-votes.field-0 c.in-Number-votes.is _ (plain _ _ _ _ fs c.epochs_after-from.ensures)

@@ -4,18 +4,17 @@ use Rattle.voting.specs.Ordinary.{lowered}
 use Rattle.voting.proofs.Laws.Step.{Sum, test_back, size_back, down_step}
 use Rattle.voting.proofs.ordinary.lowered.Goals as goal
 
-summed : (c : tie.After-step-size) → Sum ◌-ℤ◌ c.before.before.before.before.args.z c.step-size.result (lowered c.before.before.before.before.args.m c.before.before.before.before.args.z)
-summed c =
-    let g = c.before.before.before.before in
-    down_step g.args.m g.args.z c.step-size.result g.ranges.z (search rules)
-    (size_back g.args.m g.args.z c.before.fixed-step-of.result g.ranges.z (search rules) c.before.fixed-step-of.ensures c.step-size.ensures)
-    (test_back w32 c.before.before.before.least-of.result g.args.z (search rules) g.ranges.z c.before.before.before.least-of.ensures refl c.before.before.if1.true)
-
 pub overflow_sub-result : goal.overflow_sub-result
-overflow_sub-result c = (summed c).0
+overflow_sub-result c =
+    (down_step c.args.m c.args.z c.step_size.result c.ranges.z (search rules)
+    (size_back c.args.m c.args.z c.fixed_step_of.result c.ranges.z (search rules) c.fixed_step_of.ensures c.step_size.ensures)
+    (test_back w32 c.least_of.result c.args.z (search rules) c.ranges.z c.least_of.ensures refl c.if-least_of-z.true)).0
 
 pub returns-then-least_of-z : goal.returns-then-least_of-z
-returns-then-least_of-z c = (summed c).1
+returns-then-least_of-z c =
+    (down_step c.args.m c.args.z c.step_size.result c.ranges.z (search rules)
+    (size_back c.args.m c.args.z c.fixed_step_of.result c.ranges.z (search rules) c.fixed_step_of.ensures c.step_size.ensures)
+    (test_back w32 c.least_of.result c.args.z (search rules) c.ranges.z c.least_of.ensures refl c.if-least_of-z.true)).1
 
 pub returns : goal.returns
 unfolding lowered

@@ -1,3 +1,4 @@
+use mathlib.Core.Bool.{not}
 use Rattle.std.proofs.Common.{sym, ap, ◌∙◌, rules}
 use borrow.Author.Tests.{not-false}
 use Rattle.voting.specs.Ordinary.{known}
@@ -5,23 +6,22 @@ use Rattle.voting.proofs.Laws.Votes.{vote-idle, vote-unknown, vote-absent, vote-
 use Rattle.voting.proofs.ordinary.vote.Goals as goal
 
 pub returns-then-not-counted : goal.returns-then-not-counted
-returns-then-not-counted c = vote-idle _ _ _ _ _ c.counted.ensures c.if-not-counted.true
+returns-then-not-counted c = vote-idle _ _ _ _ _ c.counted.ensures (ap not c.if-not-counted.true)
 
 pub returns-then-not-is_known : goal.returns-then-not-is_known
-returns-then-not-is_known c = vote-unknown _ _ _ _ _ c.counted.ensures c.if-not-counted.false (search rules)
-    _ c.parameter-m.ensures _ c.is_known.ensures c.if-not-is_known.true
+returns-then-not-is_known c = vote-unknown _ _ _ _ _ c.counted.ensures (ap not c.if-not-counted.false) (search rules)
+    _ c.parameter-m.ensures _ c.is_known.ensures (ap not c.if-not-is_known.true)
 
 pub moved-x-requires : goal.moved-x-requires
-moved-x-requires c = ap known (sym c.parameter-m.ensures) ∙ sym c.is_known.ensures ∙ not-false _ c.if-not-is_known.false
+moved-x-requires c = ap known (sym c.parameter-m.ensures) ∙ sym c.is_known.ensures ∙ not-false _ (ap not c.if-not-is_known.false)
 
 pub returns-in-Absent : goal.returns-in-Absent
-returns-in-Absent c = vote-absent _ _ _ _ _ c.counted.ensures c.if-not-counted.false (search rules)
-    _ c.parameter-m.ensures _ c.is_known.ensures c.if-not-is_known.false
+returns-in-Absent c = vote-absent _ _ _ _ _ c.counted.ensures (ap not c.if-not-counted.false) (search rules)
+    _ c.parameter-m.ensures _ c.is_known.ensures (ap not c.if-not-is_known.false)
     _ c.get-v.ensures c.in-Absent.is
 
 pub returns-in-Number : goal.returns-in-Number
-returns-in-Number c = let v = c.v-1.given in
-    vote-writes _ _ _ _ _ c.counted.ensures c.if-not-counted.false (search rules)
-    _ c.parameter-m.ensures _ c.is_known.ensures c.if-not-is_known.false
-    _ c.get-v.ensures v.0.0 v.1 (search rules)
+returns-in-Number c = vote-writes _ _ _ _ _ c.counted.ensures (ap not c.if-not-counted.false) (search rules)
+    _ c.parameter-m.ensures _ c.is_known.ensures (ap not c.if-not-is_known.false)
+    _ c.get-v.ensures c.in-Number.z c.in-Number.is (search rules)
     _ (search rules) c.moved-x.ensures _ c.with-t.ensures

@@ -10,6 +10,5 @@ pub returns-in-Absent : goal.returns-in-Absent
 returns-in-Absent c = sym (ap (sets c.args.out.now c.args.at) (present-none _ _ c.in-Absent.is))
 
 pub returns-in-Number : goal.returns-in-Number
-returns-in-Number c = let v = c.v-1.given in
-    let f : SFits w32 v.0.0 = search rules in
-    c.put_bytes.ensures ∙ present-stored _ _ _ f v.1 c.i32_to_be_bytes-b.ensures.value _ _
+returns-in-Number c = let f : SFits w32 c.in-Number.z = search rules in
+    c.put_bytes.ensures ∙ present-stored _ _ _ f c.in-Number.is c.i32_to_be_bytes-b.ensures.value _ _

@@ -1,3 +1,5 @@
+use mathlib.Core.Bool.{not}
+use Rattle.std.proofs.Common.{ap}
 use Rattle.std.proofs.Common.{sym, refl, ◌∙◌, arith, eqb-true}
 use borrow.Author.Tests.{eqb-false}
 use Rattle.extension.proofs.Laws.Encode.{none-refused}
@@ -55,12 +57,12 @@ returns-then-sizes-ids c = record {
 
 pub returns-then-not-sum_is : goal.returns-then-not-sum_is
 returns-then-not-sum_is c = record {
-      value = raw-differs _ _ _ _ _ c.if-rules-gt-ITEMS_MOST.false c.if-ids-gt-ITEMS_MOST.false c.if-codes-gt-ITEMS_MOST.false c.if-sizes-gt-ITEMS_MOST.false c.any_above.ensures c.if-any_above.false c.any_low.ensures.value c.if-any_low.false c.if-codes-ids.false c.if-sizes-ids.false refl (eqb-false _ _ (sym c.sum_is.ensures ∙ from-not _ _ c.if-not-sum_is.true));
+      value = raw-differs _ _ _ _ _ c.if-rules-gt-ITEMS_MOST.false c.if-ids-gt-ITEMS_MOST.false c.if-codes-gt-ITEMS_MOST.false c.if-sizes-gt-ITEMS_MOST.false c.any_above.ensures c.if-any_above.false c.any_low.ensures.value c.if-any_low.false c.if-codes-ids.false c.if-sizes-ids.false refl (eqb-false _ _ (sym c.sum_is.ensures ∙ from-not _ _ (ap not c.if-not-sum_is.true)));
       fit = λ e. absurd (omega arith);
     }
 
 pub returns : goal.returns
 returns c = record {
-      value = none-refused _ _ _ _ _ c.if-rules-gt-ITEMS_MOST.false c.if-ids-gt-ITEMS_MOST.false c.if-codes-gt-ITEMS_MOST.false c.if-sizes-gt-ITEMS_MOST.false c.any_above.ensures c.if-any_above.false c.any_low.ensures.value c.if-any_low.false c.if-codes-ids.false c.if-sizes-ids.false refl (eqb-true _ _ (sym c.sum_is.ensures ∙ from-not _ _ c.if-not-sum_is.false));
+      value = none-refused _ _ _ _ _ c.if-rules-gt-ITEMS_MOST.false c.if-ids-gt-ITEMS_MOST.false c.if-codes-gt-ITEMS_MOST.false c.if-sizes-gt-ITEMS_MOST.false c.any_above.ensures c.if-any_above.false c.any_low.ensures.value c.if-any_low.false c.if-codes-ids.false c.if-sizes-ids.false refl (eqb-true _ _ (sym c.sum_is.ensures ∙ from-not _ _ (ap not c.if-not-sum_is.false)));
       fit = λ e. c.any_low.ensures.fit c.if-any_low.false;
     }

@@ -1,3 +1,5 @@
+use mathlib.Core.Bool.{not}
+use Rattle.std.proofs.Common.{ap}
 use Rattle.writers.proofs.Laws.Sizes.{from-not}
 use Rattle.writers.proofs.Laws.Fields.{many-sizes, long-size, keys-differ, values-differ, none-differs}
 use Rattle.writers.proofs.fields.fields_refusal.Goals as goal
@@ -12,7 +14,7 @@ pub returns-then-keys-sizes : goal.returns-then-keys-sizes
 returns-then-keys-sizes c = keys-differ _ _ _ c.if-sizes-gt-FIELDS_MOST.false c.any_above.ensures c.if-any_above.false c.if-keys-sizes.true
 
 pub returns-then-not-sum_is : goal.returns-then-not-sum_is
-returns-then-not-sum_is c = values-differ _ _ _ c.if-sizes-gt-FIELDS_MOST.false c.any_above.ensures c.if-any_above.false c.if-keys-sizes.false c.sum_is.ensures (from-not _ _ c.if-not-sum_is.true)
+returns-then-not-sum_is c = values-differ _ _ _ c.if-sizes-gt-FIELDS_MOST.false c.any_above.ensures c.if-any_above.false c.if-keys-sizes.false c.sum_is.ensures (from-not _ _ (ap not c.if-not-sum_is.true))
 
 pub returns : goal.returns
-returns c = none-differs _ _ _ c.if-sizes-gt-FIELDS_MOST.false c.any_above.ensures c.if-any_above.false c.if-keys-sizes.false c.sum_is.ensures (from-not _ _ c.if-not-sum_is.false)
+returns c = none-differs _ _ _ c.if-sizes-gt-FIELDS_MOST.false c.any_above.ensures c.if-any_above.false c.if-keys-sizes.false c.sum_is.ensures (from-not _ _ (ap not c.if-not-sum_is.false))

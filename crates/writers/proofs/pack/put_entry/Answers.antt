@@ -14,7 +14,6 @@ returns-in-Absent c = sym (ap (sets c.args.out.now c.args.at) (entry_absent _ _ 
 
 pub returns-else-id-eq-ID_SOFT_FORK_DISABLING_RULES : goal.returns-else-id-eq-ID_SOFT_FORK_DISABLING_RULES
 unfolding big_endian_bytes
-returns-else-id-eq-ID_SOFT_FORK_DISABLING_RULES c = let v = c.value-1.given in
-    let f : SFits w32 v.0.0 = search rules in
-    let four : c.i32_to_be_bytes-b.result ≡ big_endian_bytes 4 (bits_of 32 v.0.0) = c.i32_to_be_bytes-b.ensures.value ∙ ap (λ (z : ℤ). big_endian_bytes 4 (bits_of 32 z)) (to_z-of_z w32 v.0.0 f) in
-    c.put_bytes.ensures ∙ rw (four, entry-number _ _ _ v.1 c.if-id-eq-ID_SOFT_FORK_DISABLING_RULES.false)
+returns-else-id-eq-ID_SOFT_FORK_DISABLING_RULES c = let f : SFits w32 c.in-Number.x = search rules in
+    let four : c.i32_to_be_bytes-b.result ≡ big_endian_bytes 4 (bits_of 32 c.in-Number.x) = c.i32_to_be_bytes-b.ensures.value ∙ ap (λ (z : ℤ). big_endian_bytes 4 (bits_of 32 z)) (to_z-of_z w32 c.in-Number.x f) in
+    c.put_bytes.ensures ∙ rw (four, entry-number _ _ _ c.in-Number.is c.if-id-eq-ID_SOFT_FORK_DISABLING_RULES.false)
