@@ -8,7 +8,7 @@ returns c = λ e.
     let z = c.chosen-c.ensures in
     let h = not-illegal _ c.is_illegal.ensures e in
     record {
-      c = λ p q r. legal-at (x.0 p q r) (y.0 p q r) (z.0 p q r) h;
-      c = λ p q r. legal-at (x.1 p q r) (y.1 p q r) (z.1 p q r) h;
-      c = λ p q r. legal-at (x.2 p q r) (y.2 p q r) (z.2 p q r) h;
+      first = λ p q r. legal-at (x.0 p q r) (y.0 p q r) (z.0 p q r) h;
+      second = λ p q r. legal-at (x.1 p q r) (y.1 p q r) (z.1 p q r) h;
+      third = λ p q r. legal-at (x.2 p q r) (y.2 p q r) (z.2 p q r) h;
     }

@@ -9,8 +9,8 @@ use Rattle.writers.proofs.encode.encode_validation_settings_update.Goals as goal
 pub returns-then-e-ne0 : goal.returns-then-e-ne0
 returns-then-e-ne0 c = let r = c.encode_refusal-e.ensures in
     record {
-      out_after = update-refused _ _ _ _ _ r.0 c.if-e-ne0.true _;
-      back = update-back _ _ _ _ _ (λ i. (c.shared_slice_known-1.given i).fits) r.0 r.1;
+      out_after = update-refused _ _ _ _ _ r.value c.if-e-ne0.true _;
+      back = update-back _ _ _ _ _ (λ i. (c.shared_slice_known-1.given i).fits) r.value r.fit;
     }
 
 pub rules_size-requires : goal.rules_size-requires
@@ -37,13 +37,13 @@ returns-then-out-need c = let a = c.args in
     let sizes = a.sizes.now in
     let raw = a.raw.now in
     let r = c.encode_refusal-e.ensures in
-    let q = r.0 in
+    let q = r.value in
     let e = c.if-e-ne0.false in record {
       out_after = short (encoded rules (status_list ids codes sizes raw)) a.out.now _
           (update-size rules ids codes sizes raw (accepted rules ids codes sizes raw q e).agrees c.size-first.ensures c.rules_size.ensures.0 c.size.ensures c.statuses_size.ensures.0)
           c.if-out-need.true ∙
           update-written rules ids codes sizes raw q e a.out.now;
-      back = update-back rules ids codes sizes raw (λ i. (c.shared_slice_known-1.given i).fits) q r.1;
+      back = update-back rules ids codes sizes raw (λ i. (c.shared_slice_known-1.given i).fits) q r.fit;
     }
 
 pub put_statuses-requires : goal.put_statuses-requires
@@ -57,7 +57,7 @@ returns c = let a = c.args in
     let sizes = a.sizes.now in
     let raw = a.raw.now in
     let r = c.encode_refusal-e.ensures in
-    let q = r.0 in
+    let q = r.value in
     let e = c.if-e-ne0.false in
     let g = (accepted rules ids codes sizes raw q e).agrees in
     let pf = c.size-first.ensures in
@@ -69,5 +69,5 @@ returns c = let a = c.args in
       out_after = done (encoded rules (status_list ids codes sizes raw)) a.out.now _ (update-size rules ids codes sizes raw g pf pr pk c.statuses_size.ensures.0) c.if-out-need.false _
           (update-put rules ids codes sizes raw g pf pr pk a.out.now p₁ p₂ p₃ c.put_statuses.ensures) ∙
           update-written rules ids codes sizes raw q e a.out.now;
-      back = update-back rules ids codes sizes raw (λ i. (c.shared_slice_known-1.given i).fits) q r.1;
+      back = update-back rules ids codes sizes raw (λ i. (c.shared_slice_known-1.given i).fits) q r.fit;
     }

@@ -20,7 +20,7 @@ pub loop-i-preserved : goal.loop-i-preserved
 loop-i-preserved c = let l = c.loop-i in
     let s = c.args.rules.now in
     let p = c.put in
-    (omega arith, omega (arith, p.auto.0), rw (c.size-k.ensures, p.ensures) (sym (rules-put s l.i c.loop-i-test.true l.out l.k) ∙ l.invariant.2))
+    (omega arith, omega (arith, p.auto.out), rw (c.size-k.ensures, p.ensures) (sym (rules-put s l.i c.loop-i-test.true l.out l.k) ∙ l.invariant.2))
 
 pub returns : goal.returns
 returns c = let l = c.loop-i in

@@ -49,7 +49,7 @@ loop-i-preserved c = let l = c.loop-i in
     let e = to_z-of_z w16 (get_or a.ids.now l.i (pos 0)) (record { sfits = c.rule-1.given }) in
     let put = c.put_status in (
       omega arith,
-      omega (arith, put.auto.0),
+      omega (arith, put.auto.out),
       raw-left a.ids.now a.codes.now a.sizes.now a.raw.now l.i l.p c.requires t l.invariant.2,
       rw put.ensures (sym (statuses-put a.ids.now a.codes.now a.sizes.now a.raw.now l.i l.p c.requires t l.invariant.2 e c.status_size-k.ensures.0 l.out l.k) ∙ l.invariant.3),
     )

@@ -30,7 +30,7 @@ loop-i-preserved c = let l = c.loop-i in
     let t = c.loop-i-test.true in
     let put = c.put_field in (
       omega arith,
-      omega (arith, put.auto.0),
+      omega (arith, put.auto.out),
       values-left a.keys.now a.sizes.now a.values.now l.i l.p c.requires t l.invariant.2,
       rw put.ensures (sym (fields-put a.keys.now a.sizes.now a.values.now l.i l.p c.requires t l.invariant.2 l.out) ∙ l.invariant.3),
     )
