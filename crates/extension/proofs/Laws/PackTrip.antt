@@ -199,13 +199,13 @@ Sound m = (id : ℕ) → Held (entry_of m id)
 
 -- what owning an array of entries tells of their numbers
 abbrev Cell : Type 0
-Cell = (slots.the_field).row.Denot
+Cell = (slots.the_row).Denot
 
-one-held : (v : Value) (u : Val) → shadow ((slots.the_field).row.own_val ((slots.the_field).into (slot v)) (u ∷ [])) → Held v
+one-held : (v : Value) (u : Val) → shadow ((slots.the_row).own_val (slot v) (u ∷ [])) → Held v
 one-held Absent u p = tt
 one-held (Number z) u p = search rules
 
-pub all_held : (xs : List Slot) (us : List Val) → shadow (each Cell (slots.the_field).row.own_val (map (slots.the_field).into xs) us) → (i : ℕ) → Held (get_or xs i (slot Absent)).value
+pub all_held : (xs : List Slot) (us : List Val) → shadow (each Cell (slots.the_row).own_val xs us) → (i : ℕ) → Held (get_or xs i (slot Absent)).value
 all_held [] us p i = tt
 all_held (x ∷ xs) [] p i = absurd p
 all_held (x ∷ xs) (u ∷ us) p zero = one-held x.value u p.0
