@@ -6,7 +6,7 @@ pub add-requires-2 : goal.add-requires-2
 add-requires-2 c = simp length-set (omega arith)
 
 pub shape_of-cells : goal.shape_of-cells
-shape_of-cells c = let left = c.add in let given = c.args in c.add-2.auto.0 ∙ length-set left.new.0 given.at given.id ∙ left.auto.0
+shape_of-cells c = let left = c.add in let given = c.args in c.add-2.auto.cells ∙ length-set left.new.cells given.at given.id ∙ left.auto.cells
 
 pub returns : goal.returns
 returns c = replaced-is _ _ _ _ _ c.add.ensures c.add-2.ensures
