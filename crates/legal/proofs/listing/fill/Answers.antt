@@ -7,10 +7,10 @@ use Rattle.legal.proofs.listing.fill.Goals as goal
 
 pub returns-then-out-lt-LINE_MOST : goal.returns-then-out-lt-LINE_MOST
 returns-then-out-lt-LINE_MOST c = record {
-      value = (too_short _ _ c.if-out-lt-LINE_MOST.true).0;
-      lines = (too_short _ _ c.if-out-lt-LINE_MOST.true).1.0;
-      inside = (too_short _ _ c.if-out-lt-LINE_MOST.true).1.1.0;
-      goes_on = (too_short _ _ c.if-out-lt-LINE_MOST.true).1.1.1;
+      value = (too_short c.args.at c.args.out.now c.if-out-lt-LINE_MOST.true).0;
+      lines = (too_short c.args.at c.args.out.now c.if-out-lt-LINE_MOST.true).1.0;
+      inside = (too_short c.args.at c.args.out.now c.if-out-lt-LINE_MOST.true).1.1.0;
+      goes_on = (too_short c.args.at c.args.out.now c.if-out-lt-LINE_MOST.true).1.1.1;
     }
 
 pub loop-n-init : goal.loop-n-init

@@ -36,7 +36,7 @@ pub add-wrote-requires : goal.add-wrote-requires
 add-wrote-requires c = let l = c.loop-turns in let a = c.args in line-room a.run a.cells.now a.piece.now a.out.now l.turns l.at l.wrote l.state l.cells l.out l.invariant c.loop-turns-test.true _ c.no_more.ensures c.if-no_more.false
 
 pub overflow_add-at : goal.overflow_add-at
-overflow_add-at c = let l = c.loop-turns in let a = c.args in let h = used-fits a.run a.cells.now a.piece.now a.out.now l.turns l.at l.wrote l.state l.cells l.out l.invariant c.loop-turns-test.true _ c.no_more.ensures c.if-no_more.false _ c.take_record-took.ensures.value _ c.take_record-took.ensures.lent in let g = c.before.before.before.before.before.before.before.before.before.before.before.before.before.before.before.before.before.before.before.before.well-formed{-?-} in omega (arith, h, g.1.1.0.1)
+overflow_add-at c = let l = c.loop-turns in let a = c.args in let h = used-fits a.run a.cells.now a.piece.now a.out.now l.turns l.at l.wrote l.state l.cells l.out l.invariant c.loop-turns-test.true _ c.no_more.ensures c.if-no_more.false _ c.take_record-took.ensures.value _ c.take_record-took.ensures.lent in omega (arith, h)
 
 pub overflow_sub-turns : goal.overflow_sub-turns
 overflow_sub-turns c = omega (arith, c.loop-turns-test.true)
