@@ -12,8 +12,8 @@ unfolding matched_code
 returns c = let k = c.with_id in
     let x = c.check_parameters_v6-x in
     let s = c.args in
-    let e : x.result ≡ check_parameters (table_at s.table.now 0) (map_of s.parameters.now) = rw (← c.map_of-m.ensures, ← c.table_of-t.ensures) x.ensures.0 in
+    let e : x.result ≡ check_parameters (table_at s.table.now 0) (map_of s.parameters.now) = rw (← c.map_of-m.ensures, ← c.table_of-t.ensures) x.ensures.value in
     record {
-      value = k.ensures.0 ∙ ap matched_code e;
-      told = subst (λ (m : Matched). Told k.result m.refusal m.id) e k.ensures.1;
+      value = k.ensures.value ∙ ap matched_code e;
+      told = subst (λ (m : Matched). Told k.result m.refusal m.id) e k.ensures.told;
     }

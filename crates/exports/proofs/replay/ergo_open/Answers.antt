@@ -21,8 +21,8 @@ unfolding opened_into
 returns c = let w = c.write_state in
     let n = c.number_of in
     let e = c.«open».ensures.0 ∙ ap (open_of _) c.table_of.ensures in
-    let t : n.result ≡ 0 → Written w.result = λ q. was-written w.result _ _ _ _ q n.ensures w.ensures.0 in record {
-      state_after = through opened_into _ (numbered_is w.result n.ensures (w.ensures.0 ∙ goes _ _ refl _ _ c.if-x-ne0.false)) e;
-      next_reads = λ q. w.ensures.1.0 (t q) ∙ ap (λ (x : Opened). x.state) e;
-      onward = λ q recs last. calls-on recs _ _ last (rw (← w.ensures.1.1) (room w.result _ _ _ (t q) w.ensures.0)) (w.ensures.1.0 (t q) ∙ ap (λ (x : Opened). x.state) e);
+    let t : n.result ≡ 0 → Written w.result = λ q. was-written w.result _ _ _ _ q n.ensures w.ensures.out_after in record {
+      state_after = through opened_into _ (numbered_is w.result n.ensures (w.ensures.out_after ∙ goes _ _ refl _ _ c.if-x-ne0.false)) e;
+      next_reads = λ q. w.ensures.reads_back (t q) ∙ ap (λ (x : Opened). x.state) e;
+      onward = λ q recs last. calls-on recs _ _ last (rw (← w.ensures.size) (room w.result _ _ _ (t q) w.ensures.out_after)) (w.ensures.reads_back (t q) ∙ ap (λ (x : Opened). x.state) e);
     }

@@ -13,11 +13,11 @@ returns-then-code-ne0 c = let k = c.with_id-code in
     let x = c.replay-x in
     let p = c.number.ensures in
     let q = c.id.ensures in
-    let e = x.ensures.0 ∙ ap (λ (s : Replay). replay_of s c.args.rec.now) c.state_of-before.ensures in
+    let e = x.ensures.value ∙ ap (λ (s : Replay). replay_of s c.args.rec.now) c.state_of-before.ensures in
     record {
-      answers = through replayed_into _ (stops _ _ (code_is x.result p q k.ensures.0) _ _ c.if-code-ne0.true) e;
+      answers = through replayed_into _ (stops _ _ (code_is x.result p q k.ensures.value) _ _ c.if-code-ne0.true) e;
       next-reads = λ z. absurd (c.if-code-ne0.true z);
-      told = λ f. told-by x.result p q k.ensures.1 _ e _ refl;
+      told = λ f. told-by x.result p q k.ensures.told _ e _ refl;
     }
 
 pub returns : goal.returns
@@ -26,12 +26,12 @@ returns c = let k = c.with_id-code in
     let x = c.replay-x in
     let p = c.number.ensures in
     let q = c.id.ensures in
-    let e = x.ensures.0 ∙ ap (λ (s : Replay). replay_of s c.args.rec.now) c.state_of-before.ensures in
+    let e = x.ensures.value ∙ ap (λ (s : Replay). replay_of s c.args.rec.now) c.state_of-before.ensures in
     let w = c.write_state in
     let n = c.number_of in
     let z = c.if-code-ne0.false in
     record {
-      answers = through replayed_into _ (numbered_is w.result n.ensures (w.ensures.0 ∙ goes _ _ (code_is x.result p q k.ensures.0) _ _ z)) e;
-      next-reads = λ y. w.ensures.1.0 (was-written w.result _ _ _ _ y n.ensures w.ensures.0) ∙ ap (λ (y : Replayed). y.state) e;
-      told = λ f. told-by x.result p q k.ensures.1 _ e _ (zero-written w.result _ _ _ _ (rw w.ensures.1.1 f) n.ensures w.ensures.0 ∙ sym z);
+      answers = through replayed_into _ (numbered_is w.result n.ensures (w.ensures.out_after ∙ goes _ _ (code_is x.result p q k.ensures.value) _ _ z)) e;
+      next-reads = λ y. w.ensures.reads_back (was-written w.result _ _ _ _ y n.ensures w.ensures.out_after) ∙ ap (λ (y : Replayed). y.state) e;
+      told = λ f. told-by x.result p q k.ensures.told _ e _ (zero-written w.result _ _ _ _ (rw w.ensures.size f) n.ensures w.ensures.out_after ∙ sym z);
     }

@@ -15,4 +15,4 @@ returns c = let w = c.write_value in
     let s = c.args in
     let f : SFits w8 s.id = search rules in
     let e = c.parameter_min-v.ensures ∙ ap parameter_min (to_z-of_z w8 s.id f) in
-    numbered_is w.result c.number_of.ensures (w.ensures.0 ∙ ap (λ (v : Value). writes (value_bytes v) s.out.now) e)
+    numbered_is w.result c.number_of.ensures (w.ensures.out_after ∙ ap (λ (v : Value). writes (value_bytes v) s.out.now) e)

@@ -8,6 +8,6 @@ pub returns : goal.returns
 unfolding update_bytes
 returns c = let rules = c.put_section in
     let statuses = c.put_section-2 in record {
-      put = joined rules.ensures.0 statuses.ensures.0;
-      back = λ r s. update-back _ rules.ensures.0.long (rules.ensures.1 r) (statuses.ensures.1 s);
+      put = joined rules.ensures.put statuses.ensures.put;
+      back = λ r s. update-back _ rules.ensures.put.long (rules.ensures.back r) (statuses.ensures.back s);
     }

@@ -5,9 +5,9 @@ use Rattle.wire.proofs.places.write_section.Goals as goal
 
 pub returns : goal.returns
 returns c = let put = c.put_section in
-    let e = handed put.ensures.0 (search rules) _ c.write_bytes.ensures in
+    let e = handed put.ensures.put (search rules) _ c.write_bytes.ensures in
     record {
       out_after = e;
-      reads_back = λ w n. reads-back (put.ensures.1 n) c.write_bytes.result _ _ e w;
-      size = put.ensures.0.long;
+      reads_back = λ w n. reads-back (put.ensures.back n) c.write_bytes.result _ _ e w;
+      size = put.ensures.put.long;
     }

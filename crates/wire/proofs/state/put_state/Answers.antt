@@ -9,6 +9,6 @@ returns c = let settings = c.put_settings in
     let table = c.put_table in
     let next = c.put_u32 in
     let tally = c.put_tally in record {
-      put = joined (joined (joined settings.ensures.0 table.ensures.0) next.ensures.0) tally.ensures.0;
-      back = state-back _ settings.ensures.0.long table.ensures.0.long settings.ensures.1 table.ensures.1 next.ensures.1 tally.ensures.1;
+      put = joined (joined (joined settings.ensures.put table.ensures.put) next.ensures.put) tally.ensures.put;
+      back = state-back _ settings.ensures.put.long table.ensures.put.long settings.ensures.back table.ensures.back next.ensures.back tally.ensures.back;
     }

@@ -5,9 +5,9 @@ use Rattle.wire.proofs.values.write_table.Goals as goal
 
 pub returns : goal.returns
 returns c = let put = c.put_table in
-    let e = handed put.ensures.0 (search rules) _ c.write_bytes.ensures in
+    let e = handed put.ensures.put (search rules) _ c.write_bytes.ensures in
     record {
       out_after = e;
-      reads_back = reads-back put.ensures.1 c.write_bytes.result _ _ e;
-      size = put.ensures.0.long;
+      reads_back = reads-back put.ensures.back c.write_bytes.result _ _ e;
+      size = put.ensures.put.long;
     }
