@@ -9,7 +9,7 @@ use Rattle.exports.proofs.replay.ergo_open.Goals as goal
 
 pub returns-then-x-ne0 : goal.returns-then-x-ne0
 unfolding opened_into
-returns-then-x-ne0 c = let e = c.«open».ensures.0 ∙ ap (open_of _) c.table_of.ensures in
+returns-then-x-ne0 c = let e = c.open-x.ensures.value ∙ ap (open_of _) c.table_of.ensures in
     record {
       state_after = through opened_into _ (stops _ _ refl _ _ c.if-x-ne0.true) e;
       next_reads = λ q. absurd (c.if-x-ne0.true q);
@@ -20,7 +20,7 @@ pub returns : goal.returns
 unfolding opened_into
 returns c = let w = c.write_state in
     let n = c.number_of in
-    let e = c.«open».ensures.0 ∙ ap (open_of _) c.table_of.ensures in
+    let e = c.open-x.ensures.value ∙ ap (open_of _) c.table_of.ensures in
     let t : n.result ≡ 0 → Written w.result = λ q. was-written w.result _ _ _ _ q n.ensures w.ensures.out_after in record {
       state_after = through opened_into _ (numbered_is w.result n.ensures (w.ensures.out_after ∙ goes _ _ refl _ _ c.if-x-ne0.false)) e;
       next_reads = λ q. w.ensures.reads_back (t q) ∙ ap (λ (x : Opened). x.state) e;
