@@ -1,0 +1,65 @@
+// Votes of headers.
+ghost use Rattle.std.specs.Prelude.{◌≡◌};
+ghost use Rattle.codec.specs.Output.{writes};
+ghost use Rattle.voting.specs.Header.{check_header_votes};
+ghost use Rattle.voting.specs.Tally.{tally_votes_seeded};
+ghost use Rattle.voting.specs.ForkCheck.{check_fork_vote, fork_refusal};
+ghost use Rattle.headers.specs.Headers.{check_headers};
+ghost use Rattle.wire.specs.Numbers.{votes_at};
+ghost use Rattle.wire.specs.Values.{table_at, settings_at};
+ghost use Rattle.exports.specs.Reply.{reply, numbered, sized};
+ghost use Rattle.exports.specs.Calls.{tallied_into, next_after, next_bytes, WalksAll};
+
+use exports::votes as calls;
+
+// Whether the three votes of a header are legal: 0, or 9, 10, 11.
+#[unsafe(no_mangle)]
+pub extern "C" fn ergo_check_header_votes(votes: &[u8]) -> u8
+    ensures { result ≡ check_header_votes (votes_at votes.now 0) }
+{
+    calls::ergo_check_header_votes(votes)
+}
+
+// The same of the headers of an epoch, three bytes each, in order: the first refusal.
+#[unsafe(no_mangle)]
+pub extern "C" fn ergo_check_headers(votes: &[u8]) -> u8
+    ensures { result ≡ check_headers votes.now }
+{
+    calls::ergo_check_headers(votes)
+}
+
+// The first legal header above three vote bytes, into cells: 3, or 0 where there is none; or minus 21.
+#[unsafe(no_mangle)]
+pub extern "C" fn ergo_next_legal_votes(votes: &[u8], out: &mut [u8]) -> usize
+    ensures out_after { reply result out.new ≡ sized (writes (next_bytes (next_after votes.now)) out.old) }
+    ensures lists { WalksAll }
+{
+    calls::ergo_next_legal_votes(votes, out)
+}
+
+// The tally of an epoch's headers, three bytes each, into cells: 0, or 22, 21.
+#[unsafe(no_mangle)]
+pub extern "C" fn ergo_tally_votes_seeded(
+    first_height: u32,
+    votes: &[u8],
+    boundary_height: u32,
+    voting_length: u32,
+    out: &mut [u8],
+) -> u8
+    ensures { reply result out.new ≡ numbered (tallied_into (tally_votes_seeded first_height votes.now boundary_height voting_length) out.old) }
+{
+    calls::ergo_tally_votes_seeded(first_height, votes, boundary_height, voting_length, out)
+}
+
+// Whether a header may vote for the fork at a height: 0, or 12, 18, 19.
+#[unsafe(no_mangle)]
+pub extern "C" fn ergo_check_fork_vote(
+    settings: &[u8],
+    height: u32,
+    votes: &[u8],
+    table: &[u8],
+) -> u8
+    ensures { result ≡ fork_refusal (check_fork_vote (settings_at settings.now 0) height (votes_at votes.now 0) (table_at table.now 0)) }
+{
+    calls::ergo_check_fork_vote(settings, height, votes, table)
+}
