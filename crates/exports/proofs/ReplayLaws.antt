@@ -2,13 +2,13 @@
 use mathlib.Core.Path.{◌≡◌, refl, sym, ap, subst, ◌∙◌}
 use mathlib.Core.Bool.{Bool, true, false, cond, true≢false}
 use mathlib.Core.List.{List, [], ◌∷◌, ◌++◌}
-use Prim.Native.Nat.{ℕ, zero, suc, ◌+◌, ◌*◌, ◌≤◌}
+use Prim.Native.Nat.{ℕ, zero, suc, ◌≤◌}
 use native.Mathlib.Omega.{arith}
 use borrow.Author.Tests.{le-leb, leb-true}
 use lib.Dec.{leb}
 use lib.ListN.{length, drop, length-append, length-drop}
 use Rattle.codec.specs.Refusal.{output_short}
-use Rattle.codec.specs.Output.{Outcome, wrote, refused, outcome, writes, writing}
+use Rattle.codec.specs.Output.{wrote, refused, outcome, writes, writing}
 use Rattle.codec.specs.declared.output.Wrote.{Wrote}
 use Rattle.codec.specs.declared.output.Wrote.TheVariants.{Bytes, Refused}
 use Rattle.archive.specs.declared.replay.Replay.{Replay}
@@ -24,7 +24,7 @@ use Rattle.wire.proofs.Back.{cells_of, IsWrote}
 use Rattle.wire.specs.State.{state_at, state_bytes}
 use Rattle.exports.specs.Reply.{Reply, reply, with_id, Told, answered, numbered, answer_of, number_of}
 use Rattle.exports.specs.Calls.{verdict_code, replayed_into}
-use Rattle.exports.specs.Replays.{Replays, CallsOn, Onward}
+use Rattle.exports.specs.Replays.{Replays, CallsOn}
 
 abbrev cells_in : Reply → List ℕ
 cells_in (reply r cells) = cells

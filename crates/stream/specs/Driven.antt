@@ -9,7 +9,7 @@ use Rattle.archive.specs.Replay.{open_of}
 use Rattle.stream.specs.declared.run.Run.{Run}
 use Rattle.stream.specs.Lines.{head_line, line_most}
 use Rattle.stream.specs.Stream.{joined}
-use Rattle.stream.specs.Run.{prints, ahead, longest_record, Ready, feed_of, finish_of}
+use Rattle.stream.specs.Run.{prints, ahead, Ready, feed_of, finish_of}
 
 -- The state that program `replay` opens with: at mainnet's first epoch, with mainnet's first table.
 unfoldable pub mainnet_start : Replay

@@ -7,17 +7,16 @@ use Rattle.codec.specs.Refusal.{output_short}
 use Rattle.codec.specs.Output.{Outcome, wrote, refused, outcome, writes}
 use Rattle.codec.specs.declared.output.Wrote.{Wrote}
 use Rattle.codec.specs.declared.output.Wrote.TheVariants.{Bytes, Refused}
-use Prim.Native.Nat.{ℕ, zero, suc, ◌+◌, ◌*◌, ◌-◌, ◌/◌, ◌%◌, ◌^◌, ◌≤◌, ◌<◌}
+use Prim.Native.Nat.{ℕ, zero, suc, ◌+◌, ◌/◌, ◌%◌, ◌^◌, ◌<◌}
 use native.Mathlib.Nat.{add_assoc, add-zero, zero-add, mod-eq_of_lt}
-use native.Mathlib.Numerals.{add-one}
 use native.Mathlib.Omega.{arith}
 use lib.IntN.{ℤ}
-use lib.ListN.{length, get_or, take, drop, length-take, length-append, get_or-append}
-use lib.Seq.{sets, sets-eq, get_or-append-add}
+use lib.ListN.{length, get_or, drop, length-append, get_or-append}
+use lib.Seq.{get_or-append-add}
 use mir.Syntax.{w8, w32}
 use mir.Val.{SFits}
-use Rattle.codec.specs.BigEndian.{big_endian, big_endian_bytes}
-use Rattle.codec.specs.Signed.{bits_of, signed_of}
+use Rattle.codec.specs.BigEndian.{big_endian_bytes}
+use Rattle.codec.specs.Signed.{bits_of}
 use Rattle.codec.proofs.Laws.BigEndian.{number-of-bytes, bytes-length}
 use Rattle.codec.proofs.Laws.Signed.{bits_back, bits_fit}
 use Rattle.voting.specs.declared.settings.VotingConfig.{VotingConfig}
@@ -32,12 +31,12 @@ use Rattle.voting.specs.Table.{slot}
 use Rattle.archive.specs.declared.replay.Replay.{Replay}
 use Rattle.extension.specs.declared.section.Section.{Section}
 use Rattle.extension.specs.declared.update.Update.{Update}
-use Rattle.wire.specs.Put.{Put, Stands, Back, Written}
+use Rattle.wire.specs.Put.{Stands, Back, Written}
 use Rattle.wire.specs.Numbers.{number_bytes, number_at, four_bytes}
 use Rattle.wire.specs.Values.{marked, value_bytes, value_of, value_at, slots_bytes, slots_at, fork_bytes, fork_at, table_bytes, table_at, settings_bytes, settings_at, entry_bytes, entry_at, tally_bytes, tally_at}
 use Rattle.wire.specs.State.{state_bytes, state_at}
 use Rattle.wire.specs.Places.{section_bytes, section_at, update_bytes, update_at, Narrow}
-use Rattle.wire.proofs.Laws.{joined, value-long}
+use Rattle.wire.proofs.Laws.{value-long}
 
 -- two pieces that stand one after the other
 pub cut : {a b s : List ℕ} {n at : ℕ} → length a ≡ n → Stands s at (a ++ b) → Stands s at a × Stands s (at + n) b

@@ -1,16 +1,13 @@
 -- Pieces one after another: how stores join, and the steps of the loops over slots. Assumes nothing.
 use mathlib.Core.Path.{◌≡◌, refl, sym, ap, ◌∙◌}
 use mathlib.Core.List.{List, [], ◌∷◌, ◌++◌, map, append-nil}
-use mathlib.Core.Bool.{Bool, true, false, cond}
 use Prim.Native.Nat.{ℕ, zero, suc, ◌+◌, ◌*◌, ◌-◌, ◌/◌, ◌%◌, ◌≤◌, ◌<◌}
 use native.Mathlib.Numerals.{add-one}
 use native.Mathlib.Omega.{arith}
 use lib.IntN.{ℤ}
-use lib.ListN.{length, get_or, take, drop, set, length-append, drop_of_length-le}
+use lib.ListN.{length, get_or, drop, set, length-append, drop_of_length-le}
 use lib.Seq.{sets, sets-eq, drop-cons}
-use Rattle.codec.specs.BigEndian.{big_endian, big_endian_bytes}
-use Rattle.codec.specs.Output.{Outcome, wrote, refused, outcome, writes}
-use Rattle.codec.specs.declared.output.Wrote.{Wrote}
+use Rattle.codec.specs.Output.{Outcome, writes}
 use Rattle.codec.specs.Signed.{bits_of, signed_of}
 use Rattle.codec.proofs.Laws.BigEndian.{bytes-length, four_bytes_lem}
 use Rattle.codec.proofs.Laws.Output.{sets-append}

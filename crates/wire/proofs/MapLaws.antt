@@ -12,7 +12,7 @@ use mir.ValLaws.{to_z-of_z}
 use borrow.Author.Tests.{eqb-true, eqb-false}
 use lib.Dec.{eqb}
 use lib.IntN.{ℤ}
-use lib.ListN.{length, get_or, drop, set, length-drop, length-append, length-set, length-replicate, get_or-replicate}
+use lib.ListN.{length, get_or, drop, length-drop, length-append, length-set, length-replicate, get_or-replicate}
 use lib.Seq.{sets, drop-cons, get_or-set_same, get_or-set_other}
 use Rattle.codec.specs.BigEndian.{big_endian_bytes}
 use Rattle.codec.specs.Signed.{bits_of}
@@ -26,7 +26,7 @@ use Rattle.voting.proofs.Laws.Tests.{by-test}
 use Rattle.extension.specs.declared.parameters.ParameterMap.{ParameterMap}
 use Rattle.extension.specs.Parameters.{no_parameters, entry_of, store, number_in}
 use Rattle.extension.proofs.Laws.PackTrip.{Held, Sound}
-use Rattle.wire.specs.Numbers.{bytes_at, number_bytes}
+use Rattle.wire.specs.Numbers.{number_bytes}
 use Rattle.wire.specs.Values.{marked}
 use Rattle.wire.specs.Map.{present_bytes, present_from, map_bytes, map_in, map_of, MapBack}
 

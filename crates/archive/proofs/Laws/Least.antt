@@ -1,8 +1,8 @@
 -- A record that is refused by 15 carries the least id that differs; no other test of a replay answers 15.
 -- Assumes nothing.
-use mathlib.Core.Path.{◌≡◌, refl, sym, ap, subst, ◌∙◌}
-use mathlib.Core.Logic.{◌⊎◌, inl, inr}
-use mathlib.Core.Bool.{Bool, true, false, cond, ◌&&◌, true≢false}
+use mathlib.Core.Path.{◌≡◌, refl, sym, subst}
+use mathlib.Core.Logic.{inl, inr}
+use mathlib.Core.Bool.{Bool, true, false, cond, ◌&&◌}
 use mathlib.Core.List.{List, [], ◌∷◌}
 use Prim.Native.Nat.{ℕ, zero, suc, ◌+◌, ◌^◌}
 use native.Mathlib.Omega.{arith}
@@ -12,17 +12,15 @@ use lib.ListN.{length, take, drop}
 use Rattle.codec.specs.Refusal.{entry_differs, record_malformed, height_unexpected}
 use Rattle.voting.specs.declared.settings.VotingConfig.{VotingConfig}
 use Rattle.voting.specs.declared.table.Table.{Table}
-use Rattle.voting.specs.Common.{first}
 use Rattle.voting.specs.Settings.{voting_length}
 use Rattle.voting.specs.Header.{check_header_votes}
 use Rattle.voting.specs.Tally.{headers, entries}
 use Rattle.voting.specs.ForkCheck.{check_fork_vote, fork_refusal}
 use Rattle.voting.proofs.Laws.Refusals.{Other, first-other, header-other, fork-vote-other}
 use Rattle.rounds.specs.Epochs.{boundary_votes}
-use Rattle.extension.specs.declared.boundary.Computed.{Computed}
 use Rattle.extension.specs.declared.parameters.Matched.{Matched}
 use Rattle.extension.specs.declared.parameters.ParameterMap.{ParameterMap}
-use Rattle.extension.specs.Body.{check_body, proposed_update}
+use Rattle.extension.specs.Body.{proposed_update}
 use Rattle.extension.specs.Parameters.{parameters_of, check_parameters, Stands, LeastDiffering, LeastCarried}
 use Rattle.extension.proofs.Laws.Matched.{least-carried}
 use Rattle.extension.proofs.Laws.Refusals.{body-other, computed-other}
@@ -31,12 +29,11 @@ use Rattle.archive.specs.declared.record.RecordAt.{RecordAt}
 use Rattle.archive.specs.declared.record.RecordAt.TheVariants.{Whole, Short, Malformed}
 use Rattle.archive.specs.declared.replay.Replay.{Replay}
 use Rattle.archive.specs.declared.replay.Verdict.{Verdict}
-use Rattle.archive.specs.declared.replay.Verdict.TheVariants.{Accepted, Refused, Mismatch}
 use Rattle.archive.specs.declared.replay.Replayed.{Replayed}
 use Rattle.archive.specs.Record.{record_at}
 use Rattle.headers.specs.Headers.{headers_refusal, check_headers}
 use Rattle.archive.specs.ForkVotes.{fork_refusals, check_fork_votes}
-use Rattle.archive.specs.Replay.{refuses, gate, onward, after_match, after_boundary, height_refusal, boundary_on, on_parts, body_bytes, vote_bytes, on_record, votes_size, replay_of, Exhausted, verdict_number, verdict_id, LeastOfRecord}
+use Rattle.archive.specs.Replay.{refuses, gate, after_match, after_boundary, height_refusal, boundary_on, on_parts, body_bytes, vote_bytes, on_record, votes_size, replay_of, Exhausted, verdict_number, verdict_id, LeastOfRecord}
 use Rattle.archive.proofs.Laws.Replay.{match-stop, exhausted}
 
 -- the other tests of a replay

@@ -1,5 +1,4 @@
 use Rattle.counting.proofs.Laws.Count.{count-here, count-end}
-use Prim.Native.Nat.{◌-◌}
 use native.Mathlib.Omega.{arith}
 use lib.Dec.{eqb}
 use Rattle.counting.proofs.times_after.Goals as goal

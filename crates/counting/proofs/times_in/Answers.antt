@@ -1,5 +1,5 @@
 use Rattle.counting.proofs.Laws.Count.{count-moved}
-use Prim.Native.Nat.{◌+◌, ◌*◌, ◌/◌, ◌-◌}
+use Prim.Native.Nat.{◌+◌, ◌*◌, ◌/◌}
 use native.Mathlib.Omega.{arith}
 use lib.Dec.{eqb}
 use lib.ListN.{length}

@@ -1,7 +1,7 @@
 -- 15 carries the least id, by number, whose entry is missing or different.
 -- Assumes nothing.
 use mathlib.Core.Path.{◌≡◌, refl, sym, ap, subst, ◌∙◌}
-use mathlib.Core.Logic.{◌⊎◌, inl, inr}
+use mathlib.Core.Logic.{inl, inr}
 use mathlib.Core.Bool.{Bool, true, false, cond, true≢false}
 use mathlib.Core.List.{List, [], ◌∷◌}
 use Prim.Native.Nat.{ℕ, zero, suc, ◌≤◌, ◌<◌}
@@ -9,8 +9,6 @@ use native.Mathlib.Omega.{arith}
 use borrow.Author.Tests.{ltb-true, ltb-false, eqb-true, eqb-false}
 use lib.Dec.{ltb, eqb}
 use lib.IntN.{ℤ}
-use Rattle.codec.specs.Refusal.{entry_differs}
-use Rattle.voting.specs.Common.{eq_z}
 use Rattle.voting.specs.Table.{lookup}
 use Rattle.voting.specs.declared.table.Value.{Value}
 use Rattle.voting.specs.declared.table.Value.TheVariants.{Absent, Number}
@@ -20,7 +18,7 @@ use Rattle.voting.proofs.Laws.Table.{absent-number, lookup-none}
 use Rattle.voting.proofs.Laws.Integers.{eq_z-true, eq_z-same}
 use Rattle.extension.specs.declared.parameters.ParameterMap.{ParameterMap}
 use Rattle.extension.specs.declared.parameters.Matched.{Matched}
-use Rattle.extension.specs.Parameters.{entry_of, agrees, table_ids, first_differing, matched, check_parameters, Stands, LeastDiffering, LeastCarried}
+use Rattle.extension.specs.Parameters.{entry_of, agrees, table_ids, first_differing, matched, check_parameters, Stands, LeastCarried}
 
 -- two entries that agree, and two that do not
 agreeing : (a b : Value) → agrees a b ≡ true → (x : ℤ) → a ≡ Number x → b ≡ Number x

@@ -2,7 +2,7 @@
 -- Assumes nothing.
 use mathlib.Core.Path.{◌≡◌, refl, ap, ◌∙◌, subst, subst⁻¹}
 use mathlib.Core.Bool.{false}
-use mathlib.Core.List.{List, [], ◌∷◌, map}
+use mathlib.Core.List.{List, [], ◌∷◌}
 use Prim.Native.Nat.{ℕ, zero, suc, ◌+◌, ◌-◌, ◌≤◌, ◌<◌}
 use native.Mathlib.Nat.{add-zero}
 use native.Mathlib.Numerals.{sub-one}
@@ -27,7 +27,7 @@ use Rattle.voting.specs.contracts.table.Slot as slots
 use Rattle.voting.proofs.Laws.Tests.{by-test}
 use Rattle.extension.specs.declared.section.Parsed.{Parsed}
 use Rattle.extension.specs.declared.parameters.ParameterMap.{ParameterMap}
-use Rattle.extension.specs.Section.{got, bad, Listing, done, item, listing, items, refusal_of, section, closed, part, any}
+use Rattle.extension.specs.Section.{got, bad, Listing, done, item, listing, items, refusal_of, closed, part, any}
 use Rattle.extension.specs.Body.{Field, field_at, field_reading, read_field, extension_of, header_id}
 use Rattle.extension.specs.Parameters.{entry_of}
 use Rattle.extension.specs.Pack.{wire_list, wire_fields, long_value, pack_refusal, packed, BodyBack, BodyAgain}

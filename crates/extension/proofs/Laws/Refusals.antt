@@ -1,6 +1,6 @@
 -- No test of this crate but the match answers 15.
 -- Assumes nothing.
-use mathlib.Core.Path.{◌≡◌, refl}
+use mathlib.Core.Path.{refl}
 use mathlib.Core.Bool.{Bool, true, false, cond}
 use mathlib.Core.List.{List}
 use Prim.Native.Nat.{ℕ, zero, suc, ◌+◌}
@@ -24,11 +24,10 @@ use Rattle.extension.specs.declared.body.FieldAt.TheVariants.{HasField, NoField}
 use Rattle.extension.specs.declared.section.Parsed.{Parsed}
 use Rattle.extension.specs.declared.update.StatusPlace.{StatusPlace}
 use Rattle.extension.specs.declared.update.StatusAt.TheVariants.{HasStatus, NoStatus}
-use Rattle.extension.specs.declared.update.ParsedUpdate.{ParsedUpdate}
 use Rattle.extension.specs.Section.{Reading, got, bad, after, listing, closed, section_items, refused_section, any}
-use Rattle.extension.specs.Body.{Field, field_at, field_reading, read_field, fields_from, extension_of, fields_of, wrong_parameter, check_body}
+use Rattle.extension.specs.Body.{field_at, field_reading, read_field, fields_from, extension_of, fields_of, wrong_parameter, check_body}
 use Rattle.extension.specs.Mandatory.{mandatory_rule}
-use Rattle.extension.specs.Update.{Status, placed_rule, rule_at, rule_reading, read_rule, placed_status, offset_then, status_at, status_reading, read_status, count_in, items_from, no_update, refused_update, with_statuses, with_rules, update_of, disables}
+use Rattle.extension.specs.Update.{placed_rule, rule_at, rule_reading, read_rule, placed_status, offset_then, status_at, status_reading, read_status, count_in, items_from, no_update, refused_update, with_statuses, with_rules, update_of, disables}
 use Rattle.extension.specs.Boundary.{activates, with_update, computed_of}
 use Rattle.extension.proofs.Laws.Body.{check-body-by}
 

@@ -1,6 +1,5 @@
 use Rattle.headers.proofs.Laws.Headers.{checks-stop, checks-pass, checks-end}
 use Rattle.headers.specs.Headers.{check_headers}
-use Prim.Native.Nat.{◌-◌}
 use mathlib.Core.Path.{◌∙◌}
 use Rattle.headers.proofs.first_illegal.Goals as goal
 

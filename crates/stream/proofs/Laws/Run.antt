@@ -1,7 +1,7 @@
 -- One record of a piece, by the ways through the code; and what it means for the input.
 -- Assumes nothing.
-use Rattle.std.proofs.Common.{◌≡◌, ℕ, zero, suc, ◌+◌, ◌-◌, ◌*◌, ◌%◌, ◌^◌, ◌<◌, ◌≤◌, Bool, true, false, cond, List, [], ◌∷◌, ◌++◌, length, take, drop, sym, refl, ap, ◌∙◌, subst, true≢false, append-nil, add-one, arith, length-append, length-drop, length-take-le, take_all, take_at, le-leb}
-use lib.Seq.{sets, sets-eq, drop-length}
+use Rattle.std.proofs.Common.{◌≡◌, ℕ, zero, suc, ◌+◌, ◌-◌, ◌*◌, ◌%◌, ◌<◌, ◌≤◌, Bool, true, false, cond, List, [], ◌∷◌, ◌++◌, length, take, drop, sym, refl, ap, ◌∙◌, subst, true≢false, append-nil, add-one, arith, length-append, length-drop, length-take-le, take_all, take_at, le-leb}
+use lib.Seq.{sets, sets-eq}
 use Rattle.codec.specs.Refusal.{entry_differs, record_malformed}
 use Rattle.codec.specs.Output.{Outcome, wrote, writes}
 use Rattle.voting.specs.declared.settings.VotingConfig.{VotingConfig}
@@ -13,7 +13,7 @@ use Rattle.archive.specs.declared.replay.Replay.{Replay}
 use Rattle.archive.specs.declared.replay.Replayed.{Replayed}
 use Rattle.archive.specs.declared.replay.Verdict.{Verdict}
 use Rattle.archive.specs.declared.replay.Verdict.TheVariants.{Accepted, Refused, Mismatch}
-use Rattle.archive.specs.Record.{body_most, record_at}
+use Rattle.archive.specs.Record.{record_at}
 use Rattle.archive.specs.Replay.{votes_size, replay_of}
 use Rattle.archive.specs.Rounds.{record_height}
 use Rattle.archive.proofs.Laws.RecordTrip.{short-room, whole-exact}
@@ -25,10 +25,10 @@ use Rattle.stream.specs.declared.run.EndPrint.{EndPrint}
 use Rattle.stream.specs.declared.run.Print.{Print}
 use Rattle.stream.specs.declared.run.Print.TheVariants.{Nothing, Epoch, End}
 use Rattle.stream.specs.Lines.{epoch_line, end_line, line_most}
-use Rattle.stream.specs.Stream.{At, whole, unless, short, malformed, Step, goes, stops, printed_after, missing, Held, of-short, of-unless}
+use Rattle.stream.specs.Stream.{At, whole, unless, short, malformed, goes, stops, printed_after, missing, Held, of-short, of-unless}
 use Rattle.stream.specs.Run.{end_of, end_at, step_by, step_of, held, ahead, longest_record, Ready, text_of, taken, waits_with, ended, ends_by, after_replay, after_bytes, on_bytes, took_of, took_cells}
 use Rattle.stream.proofs.Laws.Lines.{epoch-most, end-most}
-use Rattle.stream.proofs.Laws.Stream.{taken-most, left-none, looked-some, looked-most, goes-waiting, goes-malformed, goes-accepted, goes-refused}
+use Rattle.stream.proofs.Laws.Stream.{taken-most, looked-some, looked-most, goes-waiting, goes-malformed, goes-accepted, goes-refused}
 use Rattle.stream.proofs.Laws.Reading.{lawful, says, at-whole, at-short, at-malformed}
 
 pub cond_yes : {A : Type 0} (b : Bool) (x y : A) → b ≡ true → x ≡ cond b x y

@@ -1,6 +1,6 @@
 -- The boundary's parts in order, and the check of a block's version.
 -- Assumes nothing.
-use Rattle.std.proofs.Common.{◌≡◌, ℕ, zero, suc, ◌<◌, Bool, true, false, not, ◌&&◌, List, ℤ, pos, sym, refl, ap, ◌∙◌, arith, w32, SFits, of_z, eq-eqb, ne_eqb}
+use Rattle.std.proofs.Common.{◌≡◌, ℕ, ◌<◌, Bool, true, false, not, ◌&&◌, List, ℤ, pos, sym, refl, ap, ◌∙◌, arith, w32, SFits, of_z, eq-eqb, ne_eqb}
 use Rattle.voting.specs.declared.settings.VotingConfig.{VotingConfig}
 use Rattle.voting.specs.declared.table.Value.TheVariants.{Absent, Number}
 use Rattle.voting.specs.declared.table.Table.{Table}

@@ -18,7 +18,6 @@ use Rattle.voting.specs.declared.fork.ForkVote.{ForkVote}
 use Rattle.voting.specs.declared.fork.ForkVote.TheVariants.{Allowed, Barred, Refused}
 use Rattle.codec.specs.Signed.{signed_of, wrapped}
 use Rattle.codec.proofs.Laws.Signed.{wrapped-natural, wrapped-pos}
-use Rattle.voting.specs.Common.{gate}
 use Rattle.voting.specs.Settings.{voting_length, vote_epochs, activation_epochs, version2_height, soft_fork_approved, settings_large}
 use Rattle.voting.specs.Table.{lookup, fork_entries}
 use Rattle.voting.specs.Header.{soft_fork_vote, votes_for}

@@ -1,6 +1,6 @@
 -- No test of this crate answers 15, which is the match's own.
 -- Assumes nothing.
-use Rattle.std.proofs.Common.{◌≡◌, ℕ, zero, suc, Bool, true, false, cond, ◌||◌, eqb, ltb, List, [], ◌∷◌, ℤ, pos, refl}
+use Rattle.std.proofs.Common.{◌≡◌, ℕ, zero, suc, Bool, true, false, cond, eqb, ltb, List, [], ◌∷◌, ℤ, pos, refl}
 use Rattle.codec.specs.Refusal.{too_many_votes, repeated_vote, contradictory_vote, entry_differs, voting_length_zero, setting_large, votes_collected_absent}
 use Rattle.counting.specs.Count.{count}
 use Rattle.voting.specs.Common.{eq_z, first, gate}

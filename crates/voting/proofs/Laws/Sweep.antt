@@ -1,6 +1,6 @@
 -- The boundary in one pass over the tally: the ways through the code, and that the pass gives the boundary of the rules.
 -- Assumes nothing.
-use Rattle.std.proofs.Common.{◌≡◌, ℕ, ◌+◌, ◌<◌, ◌≤◌, Bool, true, false, cond, not, ◌&&◌, ◌||◌, eqb, List, [], ◌∷◌, ◌++◌, length, get_or, drop, ℤ, pos, refl, ap, ◌∙◌, add-one, arith, drop_of_length-le, drop-cons, w8, SFits, of_z, le-ltb, eq-eqb, ne_eqb, eqb-true}
+use Rattle.std.proofs.Common.{◌≡◌, ℕ, ◌+◌, ◌<◌, ◌≤◌, Bool, true, false, cond, not, ◌&&◌, ◌||◌, eqb, List, [], ◌∷◌, length, get_or, drop, pos, refl, ap, ◌∙◌, add-one, arith, drop_of_length-le, drop-cons, w8, SFits, of_z, le-ltb, eq-eqb, ne_eqb, eqb-true}
 use Rattle.codec.specs.Refusal.{unknown_parameter}
 use Rattle.voting.specs.declared.settings.VotingConfig.{VotingConfig}
 use Rattle.voting.specs.declared.table.Value.{Value}
@@ -13,7 +13,7 @@ use Rattle.voting.specs.declared.ordinary.Voted.{Voted}
 use Rattle.voting.specs.declared.fork.ForkPart.{ForkPart}
 use Rattle.voting.specs.declared.boundary.Sweep.{Sweep}
 use Rattle.voting.specs.declared.boundary.Boundary.{Boundary}
-use Rattle.voting.specs.Common.{eq_z, gate}
+use Rattle.voting.specs.Common.{eq_z}
 use Rattle.voting.specs.Table.{lookup, update, with_fork}
 use Rattle.voting.specs.Header.{soft_fork_vote}
 use Rattle.voting.specs.Tally.{no_entry, entry, entries, first_count}

@@ -1,5 +1,4 @@
 use mathlib.Core.Path.{◌∙◌}
-use Prim.Native.Nat.{◌-◌}
 use native.Mathlib.Omega.{arith}
 use Rattle.walk.proofs.Laws.Match.{unlike-fork, unlike-here, unlike-next}
 use Rattle.walk.proofs.first_unlike.Goals as goal

@@ -1,18 +1,16 @@
 -- Bodies and parameters written: the walk over a list of fields, and the bytes of parameters one after another.
 -- Assumes nothing.
-use Rattle.std.proofs.Common.{◌≡◌, ℕ, zero, suc, ◌+◌, ◌-◌, ◌*◌, ◌%◌, ◌<◌, ◌≤◌, Bool, true, false, cond, ◌||◌, eqb, ltb, List, [], ◌∷◌, ◌++◌, length, get_or, ℤ, sym, refl, ap, ◌∙◌, add-zero, zero-add, sub-one, arith, length-append, w32, SFits, to_z, of_z, le-ltb, lt-ltb, eq-eqb, ne_eqb}
-use mir.ValLaws.{to_z-of_z}
+use Rattle.std.proofs.Common.{◌≡◌, ℕ, zero, suc, ◌+◌, ◌-◌, ◌*◌, ◌%◌, ◌<◌, ◌≤◌, Bool, true, false, cond, ◌||◌, eqb, ltb, List, [], ◌++◌, length, ℤ, sym, refl, ap, ◌∙◌, add-zero, zero-add, sub-one, arith, length-append, le-ltb, lt-ltb, eq-eqb, ne_eqb}
 use lib.Seq.{sets}
 use Rattle.codec.specs.Refusal.{field_header_cut, value_cut, input_long, written_value_long, output_short}
 use Rattle.codec.specs.Vlq.{vlq_bytes}
 use Rattle.codec.specs.BigEndian.{big_endian_bytes}
-use Rattle.codec.specs.Signed.{bits_of}
 use Rattle.codec.specs.Output.{wrote, refused, writes, writing}
 use Rattle.codec.proofs.Laws.Output as output
 use Rattle.voting.specs.declared.table.Value.{Value}
 use Rattle.voting.specs.declared.table.Value.TheVariants.{Absent, Number}
 use Rattle.extension.specs.declared.parameters.ParameterMap.{ParameterMap}
-use Rattle.extension.specs.Section.{Listing, done, stop, item, after, items, refusal_of, any}
+use Rattle.extension.specs.Section.{Listing, done, stop, item, items, refusal_of, any}
 use Rattle.extension.specs.Body.{Field}
 use Rattle.extension.specs.Parameters.{entry_of}
 use Rattle.extension.specs.Pack.{wire_list, wire_fields, long_value, pack_refusal, packed}

@@ -2,7 +2,6 @@ use native.Mathlib.Omega.{arith}
 use Rattle.archive.proofs.Laws.ForkVotes.{forks-stop, forks-pass, forks-end}
 use Rattle.voting.specs.ForkCheck.{fork_refusal}
 use Rattle.archive.specs.ForkVotes.{check_fork_votes}
-use Prim.Native.Nat.{◌-◌}
 use mathlib.Core.Path.{ap, ◌∙◌}
 use Rattle.archive.proofs.fork_votes.first_barred.Goals as goal
 

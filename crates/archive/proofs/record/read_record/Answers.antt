@@ -10,18 +10,18 @@ with_body-requires c = let h = ends-here _ _ _ _ _ (omega arith) _ (sym c.in-End
 
 pub returns-in-Ends : goal.returns-in-Ends
 returns-in-Ends c = record {
-      value = c.with_body.ensures ∙ height-ends _ _ _ c.tagged_at.ensures _ c.in-Ends.is;
-      exact = record-exact _ _ (λ i. (c.shared_slice_known-1.given i).fits);
-    }
+  value = c.with_body.ensures ∙ height-ends _ _ _ c.tagged_at.ensures _ c.in-Ends.is;
+  exact = record-exact _ _ (λ i. (c.shared_slice_known-1.given i).fits);
+}
 
 pub returns-in-More : goal.returns-in-More
 returns-in-More c = record {
-      value = height-more _ _ _ c.tagged_at.ensures _ c.in-More.is;
-      exact = record-exact _ _ (λ i. (c.shared_slice_known-1.given i).fits);
-    }
+  value = height-more _ _ _ c.tagged_at.ensures _ c.in-More.is;
+  exact = record-exact _ _ (λ i. (c.shared_slice_known-1.given i).fits);
+}
 
 pub returns-in-Other : goal.returns-in-Other
 returns-in-Other c = record {
-      value = height-other _ _ _ c.tagged_at.ensures c.in-Other.is;
-      exact = record-exact _ _ (λ i. (c.shared_slice_known-1.given i).fits);
-    }
+  value = height-other _ _ _ c.tagged_at.ensures c.in-Other.is;
+  exact = record-exact _ _ (λ i. (c.shared_slice_known-1.given i).fits);
+}

@@ -7,8 +7,8 @@ slice_bounds-put_bytes-end c = part_length _ _ _ _ _ c.put_most-k.ensures (omega
 
 pub returns : goal.returns
 returns c = let p = c.put_most-k.ensures in record {
-      value = omega (arith, p.ends);
-      cells = handed-on _ _ _ _ _ p (omega arith) _ _ _ c.put_bytes.ensures;
-      decimal = digits_decimal _ _ (search rules);
-      most = omega (arith, p.small);
-    }
+  value = omega (arith, p.ends);
+  cells = handed-on _ _ _ _ _ p (omega arith) _ _ _ c.put_bytes.ensures;
+  decimal = digits_decimal _ _ (search rules);
+  most = omega (arith, p.small);
+}

@@ -1,4 +1,4 @@
-use Rattle.std.proofs.Common.{◌-◌, drop, sym, ◌∙◌, rules}
+use Rattle.std.proofs.Common.{drop, sym, ◌∙◌, rules}
 use Rattle.codec.proofs.Laws.Output.{sets-out, sets-none, sets-one}
 use Rattle.codec.proofs.output.put_bytes.Goals as goal
 

@@ -6,13 +6,13 @@ use Rattle.exports.proofs.votes.ergo_next_legal_votes.Goals as goal
 pub returns-in-Votes : goal.returns-in-Votes
 unfolding next_bytes
 returns-in-Votes c = record {
-      out_after = next-sized _ (sized-is c.write_bytes.result c.size_of.ensures c.write_bytes.ensures)
-          (sym c.in-Votes.is ∙ c.next_legal_votes.ensures.value ∙ next-after _ _ c.votes_of-v.ensures);
-      lists = walks-all;
-    }
+  out_after = next-sized _ (sized-is c.write_bytes.result c.size_of.ensures c.write_bytes.ensures)
+      (sym c.in-Votes.is ∙ c.next_legal_votes.ensures.value ∙ next-after _ _ c.votes_of-v.ensures);
+  lists = walks-all;
+}
 
 pub returns-in-Nothing : goal.returns-in-Nothing
 returns-in-Nothing c = record {
-      out_after = next-sized _ (next-none _) (sym c.in-Nothing.is ∙ c.next_legal_votes.ensures.value ∙ next-after _ _ c.votes_of-v.ensures);
-      lists = walks-all;
-    }
+  out_after = next-sized _ (next-none _) (sym c.in-Nothing.is ∙ c.next_legal_votes.ensures.value ∙ next-after _ _ c.votes_of-v.ensures);
+  lists = walks-all;
+}

@@ -1,7 +1,6 @@
 use native.Mathlib.Omega.{arith}
 use Rattle.extension.proofs.Laws.Section.{listing_none, listing-stop, listing-item, items-done, items-stop, items-item, any_none, any_found, any-passed}
 use Rattle.extension.proofs.Laws.Body.{field-read, field-unread, field-inside, wrong-place}
-use Rattle.extension.specs.Body.{read_field}
 use Rattle.extension.specs.Section.{section_items}
 use mathlib.Core.Path.{sym, ◌∙◌}
 use Rattle.extension.proofs.body.any_wrong_size.Goals as goal

@@ -1,6 +1,5 @@
 use Rattle.extension.proofs.Laws.Section.{listing_none, listing-stop, listing-item, closed-done, closed-stop, closed-item}
 use Rattle.extension.proofs.Laws.Body.{field-read, field-unread}
-use Rattle.extension.specs.Body.{read_field}
 use mathlib.Core.Path.{sym, ◌∙◌}
 use Rattle.extension.proofs.body.fields_section.Goals as goal
 

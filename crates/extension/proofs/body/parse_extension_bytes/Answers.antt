@@ -6,39 +6,39 @@ use Rattle.extension.proofs.body.parse_extension_bytes.Goals as goal
 
 pub returns-then-body-gt-INPUT_MOST : goal.returns-then-body-gt-INPUT_MOST
 returns-then-body-gt-INPUT_MOST c = record {
-      value = (parsed-again _ _
-    (c.refused.ensures ∙ body-long _ c.if-body-gt-INPUT_MOST.true)).0;
-      again = (parsed-again _ _
-    (c.refused.ensures ∙ body-long _ c.if-body-gt-INPUT_MOST.true)).1;
-    }
+  value = (parsed-again _ _
+      (c.refused.ensures ∙ body-long _ c.if-body-gt-INPUT_MOST.true)).0;
+  again = (parsed-again _ _
+      (c.refused.ensures ∙ body-long _ c.if-body-gt-INPUT_MOST.true)).1;
+}
 
 pub returns-then-body-lt-HEADER_ID_SIZE : goal.returns-then-body-lt-HEADER_ID_SIZE
 returns-then-body-lt-HEADER_ID_SIZE c = record {
-      value = (parsed-again _ _
-    (c.refused-then-body-lt-HEADER_ID_SIZE.ensures ∙ body-short _ c.if-body-gt-INPUT_MOST.false c.if-body-lt-HEADER_ID_SIZE.true)).0;
-      again = (parsed-again _ _
-    (c.refused-then-body-lt-HEADER_ID_SIZE.ensures ∙ body-short _ c.if-body-gt-INPUT_MOST.false c.if-body-lt-HEADER_ID_SIZE.true)).1;
-    }
+  value = (parsed-again _ _
+      (c.refused-then-body-lt-HEADER_ID_SIZE.ensures ∙ body-short _ c.if-body-gt-INPUT_MOST.false c.if-body-lt-HEADER_ID_SIZE.true)).0;
+  again = (parsed-again _ _
+      (c.refused-then-body-lt-HEADER_ID_SIZE.ensures ∙ body-short _ c.if-body-gt-INPUT_MOST.false c.if-body-lt-HEADER_ID_SIZE.true)).1;
+}
 
 pub overflow_cast-m : goal.overflow_cast-m
 overflow_cast-m c = record { fits = (read-inside 32 _ _ _ (sym c.in-Value.is ∙ c.read_u32.ensures)).value-fits }
 
 pub returns-in-Value : goal.returns-in-Value
 returns-in-Value c = record {
-      value = (parsed-again _ _
-    (c.fields_section.ensures
-    ∙ body-counted _ c.if-body-gt-INPUT_MOST.false c.if-body-lt-HEADER_ID_SIZE.false _ (sym c.in-Value.is ∙ c.read_u32.ensures))).0;
-      again = (parsed-again _ _
-    (c.fields_section.ensures
-    ∙ body-counted _ c.if-body-gt-INPUT_MOST.false c.if-body-lt-HEADER_ID_SIZE.false _ (sym c.in-Value.is ∙ c.read_u32.ensures))).1;
-    }
+  value = (parsed-again _ _
+      (c.fields_section.ensures
+      ∙ body-counted _ c.if-body-gt-INPUT_MOST.false c.if-body-lt-HEADER_ID_SIZE.false _ (sym c.in-Value.is ∙ c.read_u32.ensures))).0;
+  again = (parsed-again _ _
+      (c.fields_section.ensures
+      ∙ body-counted _ c.if-body-gt-INPUT_MOST.false c.if-body-lt-HEADER_ID_SIZE.false _ (sym c.in-Value.is ∙ c.read_u32.ensures))).1;
+}
 
 pub returns-in-Unreadable : goal.returns-in-Unreadable
 returns-in-Unreadable c = record {
-      value = (parsed-again _ _
-    (c.refused-in-Unreadable.ensures
-    ∙ body-uncounted _ c.if-body-gt-INPUT_MOST.false c.if-body-lt-HEADER_ID_SIZE.false (sym c.in-Unreadable.is ∙ c.read_u32.ensures))).0;
-      again = (parsed-again _ _
-    (c.refused-in-Unreadable.ensures
-    ∙ body-uncounted _ c.if-body-gt-INPUT_MOST.false c.if-body-lt-HEADER_ID_SIZE.false (sym c.in-Unreadable.is ∙ c.read_u32.ensures))).1;
-    }
+  value = (parsed-again _ _
+      (c.refused-in-Unreadable.ensures
+      ∙ body-uncounted _ c.if-body-gt-INPUT_MOST.false c.if-body-lt-HEADER_ID_SIZE.false (sym c.in-Unreadable.is ∙ c.read_u32.ensures))).0;
+  again = (parsed-again _ _
+      (c.refused-in-Unreadable.ensures
+      ∙ body-uncounted _ c.if-body-gt-INPUT_MOST.false c.if-body-lt-HEADER_ID_SIZE.false (sym c.in-Unreadable.is ∙ c.read_u32.ensures))).1;
+}

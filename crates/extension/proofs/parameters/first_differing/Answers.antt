@@ -1,6 +1,5 @@
 use Rattle.extension.proofs.Laws.Parameters.{differs-here, differs_next, differs_none}
 use Rattle.extension.specs.Parameters.{table_ids}
-use Prim.Native.Nat.{◌-◌}
 use mathlib.Core.Path.{◌∙◌}
 use Rattle.extension.proofs.parameters.first_differing.Goals as goal
 

@@ -3,7 +3,6 @@ use Rattle.extension.proofs.Laws.Section.{listing_none, listing-stop, listing-it
 use Rattle.extension.proofs.Laws.Body.{field-read, field-unread, field-inside}
 use Rattle.extension.proofs.Laws.Parameters.{parameters-none, parameters-next}
 use Rattle.extension.specs.Parameters.{parameters_in}
-use Rattle.extension.specs.Body.{read_field}
 use Rattle.extension.specs.Section.{section_items}
 use mathlib.Core.Path.{ap, sym, ◌∙◌}
 use Rattle.extension.proofs.parameters.parameters_in.Goals as goal

@@ -1,6 +1,5 @@
 use Rattle.extension.proofs.Laws.Update.{update-long, update-empty, update-read, proposed-refused, proposed-empty, proposed-read, rules-moved}
 use mathlib.Core.Path.{sym}
-use borrow.Author.Rules.{rules}
 use Rattle.extension.proofs.update.parse_proposed.Goals as goal
 
 pub returns-then-bytes-gt-INPUT_MOST : goal.returns-then-bytes-gt-INPUT_MOST

@@ -4,6 +4,6 @@ use Rattle.extension.proofs.update.parse_validation_settings_update.Goals as goa
 
 pub returns : goal.returns
 returns c = record {
-      value = (parsed-again _ _ (proposed-parsed _ _ _ c.parse_proposed-p.ensures)).0;
-      again = (parsed-again _ _ (proposed-parsed _ _ _ c.parse_proposed-p.ensures)).1;
-    }
+  value = (parsed-again _ _ (proposed-parsed _ _ _ c.parse_proposed-p.ensures)).0;
+  again = (parsed-again _ _ (proposed-parsed _ _ _ c.parse_proposed-p.ensures)).1;
+}

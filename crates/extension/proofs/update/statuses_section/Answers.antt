@@ -1,6 +1,5 @@
 use Rattle.extension.proofs.Laws.Section.{listing_none, listing-stop, listing-item, closed-done, closed-stop, closed-item}
 use Rattle.extension.proofs.Laws.Update.{status-read, status-unread}
-use Rattle.extension.specs.Update.{read_status}
 use mathlib.Core.Path.{sym, ◌∙◌}
 use Rattle.extension.proofs.update.statuses_section.Goals as goal
 

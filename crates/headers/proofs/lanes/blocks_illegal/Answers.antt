@@ -1,5 +1,4 @@
 use Rattle.headers.proofs.Laws.Lanes.{block_on}
-use Prim.Native.Nat.{◌-◌}
 use native.Mathlib.Omega.{arith}
 use Rattle.headers.proofs.lanes.blocks_illegal.Goals as goal
 

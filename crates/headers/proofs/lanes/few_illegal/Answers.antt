@@ -1,5 +1,4 @@
 use Rattle.headers.proofs.Laws.Lanes.{header-on}
-use Prim.Native.Nat.{◌-◌}
 use native.Mathlib.Omega.{arith}
 use Rattle.headers.proofs.lanes.few_illegal.Goals as goal
 

@@ -4,6 +4,6 @@ use Rattle.legal.proofs.listing.begin.Goals as goal
 
 pub returns : goal.returns
 returns c = record {
-      value = refl;
-      pieces = pieces-all;
-    }
+  value = refl;
+  pieces = pieces-all;
+}

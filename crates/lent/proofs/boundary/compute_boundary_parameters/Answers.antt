@@ -1,4 +1,4 @@
-use Rattle.std.proofs.Common.{◌≡◌, refl, ap, sym, ◌∙◌, drop, arith, ◌+◌, get_or, w8, SFits, rules}
+use Rattle.std.proofs.Common.{ap, sym, ◌∙◌, drop, arith, ◌+◌, get_or, w8, SFits, rules}
 use mir.ValLaws.{to_z-of_z}
 use Rattle.voting.specs.Tally.{no_entry}
 use Rattle.lent.specs.declared.boundary.Carried.{Carried}
@@ -11,8 +11,7 @@ pub loop-i-preserved : goal.loop-i-preserved
 loop-i-preserved c =
     let l = c.loop-i in
     let e = get_or c.args.tally.now l.i no_entry in
-    let f : SFits w8 e.id = search rules in
-    (
+    let f : SFits w8 e.id = search rules in (
       omega arith,
       ap (λ (s : Carried). sweep_of s (drop (l.i + 1) c.args.tally.now)) (rw (to_z-of_z w8 e.id f) at c.swept-s.ensures) ∙ sym (sweep-here l.s c.args.tally.now l.i c.loop-i-test.true) ∙ l.invariant.1,
     )

@@ -4,6 +4,6 @@ use Rattle.stream.proofs.run.begin.Goals as goal
 
 pub returns : goal.returns
 returns c = record {
-      value = refl;
-      begins = begins _;
-    }
+  value = refl;
+  begins = begins _;
+}

@@ -4,9 +4,9 @@ use Rattle.stream.proofs.run.take_record.Goals as goal
 
 pub returns-then-run : goal.returns-then-run
 returns-then-run c = record {
-      value = (over-took _ _ _ c.if-run.true _ c.taken_all.ensures).0;
-      lent = (over-took _ _ _ c.if-run.true _ c.taken_all.ensures).1;
-    }
+  value = (over-took _ _ _ c.if-run.true _ c.taken_all.ensures).0;
+  lent = (over-took _ _ _ c.if-run.true _ c.taken_all.ensures).1;
+}
 
 pub slice_bounds-put_bytes-end : goal.slice_bounds-put_bytes-end
 slice_bounds-put_bytes-end c = used-inside c.args.run c.args.cells.now c.args.piece.now c.requires.0 c.requires.1 _ c.taken-used.ensures
@@ -19,6 +19,6 @@ slice_bounds-on_bytes-end c = let h = used-fits c.args.run c.args.cells.now c.ar
 
 pub returns : goal.returns
 returns c = record {
-      value = (room-took c.args.run c.args.cells.now c.args.piece.now c.requires.0 c.requires.1 _ c.taken-used.ensures c.if-run.false _ c.put_bytes.ensures _ c.on_bytes.ensures).0;
-      lent = (room-took c.args.run c.args.cells.now c.args.piece.now c.requires.0 c.requires.1 _ c.taken-used.ensures c.if-run.false _ c.put_bytes.ensures _ c.on_bytes.ensures).1;
-    }
+  value = (room-took c.args.run c.args.cells.now c.args.piece.now c.requires.0 c.requires.1 _ c.taken-used.ensures c.if-run.false _ c.put_bytes.ensures _ c.on_bytes.ensures).0;
+  lent = (room-took c.args.run c.args.cells.now c.args.piece.now c.requires.0 c.requires.1 _ c.taken-used.ensures c.if-run.false _ c.put_bytes.ensures _ c.on_bytes.ensures).1;
+}

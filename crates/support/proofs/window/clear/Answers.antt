@@ -1,4 +1,4 @@
-use Rattle.std.proofs.Common.{◌-◌, arith, rules}
+use Rattle.std.proofs.Common.{arith, rules}
 use Rattle.support.proofs.Laws.Calls.{cleared_more, cleared-all}
 use Rattle.support.proofs.window.clear.Goals as goal
 

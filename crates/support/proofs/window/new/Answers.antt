@@ -5,9 +5,9 @@ use Rattle.support.proofs.window.new.Goals as goal
 
 pub returns-then-e-ne0 : goal.returns-then-e-ne0
 returns-then-e-ne0 c = record {
-      cells_after = (kept-refused _ _ _ c.new_refusal-e.ensures c.if-e-ne0.true _ c.empty.ensures).0;
-      support = (kept-refused _ _ _ c.new_refusal-e.ensures c.if-e-ne0.true _ c.empty.ensures).1;
-    }
+  cells_after = (kept-refused _ _ _ c.new_refusal-e.ensures c.if-e-ne0.true _ c.empty.ensures).0;
+  support = (kept-refused _ _ _ c.new_refusal-e.ensures c.if-e-ne0.true _ c.empty.ensures).1;
+}
 
 pub overflow_cast-n : goal.overflow_cast-n
 overflow_cast-n c = let room = new-room _ _ (sym c.new_refusal-e.ensures ∙ c.if-e-ne0.false) in search rules
@@ -17,6 +17,6 @@ clear-requires c = let room = new-room _ _ (sym c.new_refusal-e.ensures ∙ c.if
 
 pub returns : goal.returns
 returns c = record {
-      cells_after = (kept-made _ _ _ c.new_refusal-e.ensures c.if-e-ne0.false _ c.empty-2.ensures _ c.cell_of.ensures _ c.clear.ensures).0;
-      support = (kept-made _ _ _ c.new_refusal-e.ensures c.if-e-ne0.false _ c.empty-2.ensures _ c.cell_of.ensures _ c.clear.ensures).1;
-    }
+  cells_after = (kept-made _ _ _ c.new_refusal-e.ensures c.if-e-ne0.false _ c.empty-2.ensures _ c.cell_of.ensures _ c.clear.ensures).0;
+  support = (kept-made _ _ _ c.new_refusal-e.ensures c.if-e-ne0.false _ c.empty-2.ensures _ c.cell_of.ensures _ c.clear.ensures).1;
+}

@@ -1,6 +1,5 @@
-use Rattle.voting.specs.ForkPart.{phase_at}
 use Rattle.std.proofs.Common.{sym, ◌∙◌, w32, SFits, rules}
-use Rattle.voting.specs.ForkPart.{by_start, running}
+use Rattle.voting.specs.ForkPart.{by_start}
 use Rattle.voting.proofs.Laws.Fork.{part-zero, part-large, part_by}
 use mir.ValLaws.{to_z-of_z}
 use Rattle.voting.proofs.fork.fork_part.Goals as goal

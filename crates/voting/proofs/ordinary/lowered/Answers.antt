@@ -1,7 +1,7 @@
-use Rattle.std.proofs.Common.{◌-ℤ◌, refl, ◌∙◌, w32, rules}
+use Rattle.std.proofs.Common.{refl, ◌∙◌, w32, rules}
 use mir.ValLaws.{to_z-of_z}
 use Rattle.voting.specs.Ordinary.{lowered}
-use Rattle.voting.proofs.Laws.Step.{Sum, test_back, size_back, down_step}
+use Rattle.voting.proofs.Laws.Step.{test_back, size_back, down_step}
 use Rattle.voting.proofs.ordinary.lowered.Goals as goal
 
 pub overflow_sub-result : goal.overflow_sub-result

@@ -1,7 +1,7 @@
-use Rattle.std.proofs.Common.{ℕ, ℤ, ◌≡◌, ◌≤◌, ◌+ℤ◌, refl, ◌∙◌, w32, rules}
+use Rattle.std.proofs.Common.{refl, ◌∙◌, w32, rules}
 use mir.ValLaws.{to_z-of_z}
 use Rattle.voting.specs.Ordinary.{raised}
-use Rattle.voting.proofs.Laws.Step.{Sum, test_back, size_back, up_step}
+use Rattle.voting.proofs.Laws.Step.{test_back, size_back, up_step}
 use Rattle.voting.proofs.ordinary.raised.Goals as goal
 
 pub overflow_add-result : goal.overflow_add-result

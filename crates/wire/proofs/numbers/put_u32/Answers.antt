@@ -5,6 +5,6 @@ use Rattle.wire.proofs.numbers.put_u32.Goals as goal
 
 pub returns : goal.returns
 returns c = record {
-      put = number_put _ c.put_bytes.ensures;
-      back = number-back _ (search rules);
-    }
+  put = number_put _ c.put_bytes.ensures;
+  back = number-back _ (search rules);
+}

@@ -1,7 +1,6 @@
 use Rattle.wire.specs.Places.{update_bytes}
 use Rattle.wire.proofs.Back.{update-back}
 use Rattle.wire.proofs.Laws.{joined}
-use borrow.Author.Rules.{rules}
 use Rattle.wire.proofs.places.put_update.Goals as goal
 
 pub returns : goal.returns

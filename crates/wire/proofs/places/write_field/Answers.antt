@@ -6,6 +6,6 @@ use Rattle.wire.proofs.places.write_field.Goals as goal
 pub returns : goal.returns
 unfolding field_bytes
 returns c = let put = c.put_four.ensures in record {
-      out_after = handed put (search rules) _ c.write_bytes.ensures;
-      size = put.long;
-    }
+  out_after = handed put (search rules) _ c.write_bytes.ensures;
+  size = put.long;
+}

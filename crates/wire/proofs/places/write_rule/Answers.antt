@@ -6,6 +6,6 @@ use Rattle.wire.proofs.places.write_rule.Goals as goal
 pub returns : goal.returns
 unfolding rule_bytes
 returns c = let put = joined c.put_u32.ensures.put c.put_usize.ensures in record {
-      out_after = handed put (search rules) _ c.write_bytes.ensures;
-      size = put.long;
-    }
+  out_after = handed put (search rules) _ c.write_bytes.ensures;
+  size = put.long;
+}

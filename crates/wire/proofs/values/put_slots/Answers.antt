@@ -2,7 +2,6 @@ use borrow.Author.Count.{below_more}
 use Rattle.wire.proofs.Back.{slots-back}
 use native.Mathlib.Omega.{arith}
 use Rattle.wire.proofs.Laws.{slots-put, all-put, length-mapped}
-use Prim.Native.Nat.{◌-◌}
 use lib.ListN.{length}
 use mathlib.Core.Path.{◌≡◌, ◌∙◌}
 use borrow.Author.Rules.{rules}

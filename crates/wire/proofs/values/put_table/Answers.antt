@@ -6,6 +6,6 @@ use Rattle.wire.proofs.values.put_table.Goals as goal
 pub returns : goal.returns
 unfolding table_bytes
 returns c = record {
-      put = joined c.put_slots.ensures.put c.put_fork.ensures.put;
-      back = table-back _ c.put_slots.ensures.put.long c.put_slots.ensures.back c.put_fork.ensures.back;
-    }
+  put = joined c.put_slots.ensures.put c.put_fork.ensures.put;
+  back = table-back _ c.put_slots.ensures.put.long c.put_slots.ensures.back c.put_fork.ensures.back;
+}

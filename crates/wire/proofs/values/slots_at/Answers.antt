@@ -1,7 +1,6 @@
 use Rattle.wire.proofs.Laws.{slots-more, slots_read}
 use native.Mathlib.Omega.{arith}
 use Rattle.wire.specs.Values.{slots_at}
-use Prim.Native.Nat.{◌-◌}
 use mathlib.Core.Path.{refl, sym, ◌∙◌}
 use borrow.Author.Rules.{rules}
 use Rattle.wire.proofs.values.slots_at.Goals as goal

@@ -1,4 +1,4 @@
-use Rattle.std.proofs.Common.{◌-◌, true, false, get_or, pos, sym, ◌∙◌, true≢false, arith, w16, SFits}
+use Rattle.std.proofs.Common.{true, false, get_or, pos, sym, ◌∙◌, true≢false, arith, w16, SFits}
 use lib.Signed.{lt_z}
 use Rattle.extension.specs.Encode.{low_rule}
 use Rattle.writers.proofs.Laws.Sizes.{any-end, any_found, any-past}
@@ -7,9 +7,9 @@ use Rattle.writers.proofs.encode.any_low.Goals as goal
 
 pub returns-then-ids-i-lt-FIRST_RULE_ID : goal.returns-then-ids-i-lt-FIRST_RULE_ID
 returns-then-ids-i-lt-FIRST_RULE_ID c = record {
-      value = sym (any_found low_rule _ _ (pos 0) c.loop-i-test.true (low-test _ true (record { sfits = c.t6-1.given }) c.if-ids-i-lt-FIRST_RULE_ID.true)) ∙ c.loop-i.invariant.1;
-      fit = λ e. absurd (true≢false e);
-    }
+  value = sym (any_found low_rule _ _ (pos 0) c.loop-i-test.true (low-test _ true (record { sfits = c.t6-1.given }) c.if-ids-i-lt-FIRST_RULE_ID.true)) ∙ c.loop-i.invariant.1;
+  fit = λ e. absurd (true≢false e);
+}
 
 pub loop-i-preserved : goal.loop-i-preserved
 loop-i-preserved c = let l = c.loop-i in

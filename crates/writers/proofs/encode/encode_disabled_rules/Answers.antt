@@ -1,4 +1,4 @@
-use Rattle.std.proofs.Common.{[], length, ◌∙◌, arith, rules}
+use Rattle.std.proofs.Common.{[], length, ◌∙◌, arith}
 use Rattle.codec.proofs.Laws.VlqTrip.{at-most-ten}
 use Rattle.codec.proofs.Laws.Output.{short, done}
 use Rattle.extension.specs.Encode.{encoded}
@@ -8,9 +8,9 @@ use Rattle.writers.proofs.encode.encode_disabled_rules.Goals as goal
 
 pub returns-then-rules-gt-ITEMS_MOST : goal.returns-then-rules-gt-ITEMS_MOST
 returns-then-rules-gt-ITEMS_MOST c = record {
-      out_after = rules-refused _ _ c.if-rules-gt-ITEMS_MOST.true;
-      back = rules-back _ (λ i. (c.shared_slice_known-1.given i).fits);
-    }
+  out_after = rules-refused _ _ c.if-rules-gt-ITEMS_MOST.true;
+  back = rules-back _ (λ i. (c.shared_slice_known-1.given i).fits);
+}
 
 pub overflow_add-second : goal.overflow_add-second
 overflow_add-second c = omega (arith, c.rules_size.ensures, c.size-first.ensures, at-most-ten (length c.args.rules.now))

@@ -1,4 +1,4 @@
-use Rattle.std.proofs.Common.{length, ◌∙◌, arith, rules}
+use Rattle.std.proofs.Common.{length, ◌∙◌, arith}
 use Rattle.codec.proofs.Laws.VlqTrip.{at-most-ten}
 use Rattle.codec.proofs.Laws.Output.{short, done}
 use Rattle.extension.specs.Encode.{encoded, status_list}

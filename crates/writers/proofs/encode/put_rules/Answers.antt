@@ -1,4 +1,4 @@
-use Rattle.std.proofs.Common.{◌-◌, get_or, drop, sym, ◌∙◌, arith, rules}
+use Rattle.std.proofs.Common.{get_or, drop, sym, ◌∙◌, arith, rules}
 use Rattle.codec.proofs.Laws.VlqTrip.{at-most-ten}
 use Rattle.codec.proofs.Laws.Output.{sets-out}
 use Rattle.extension.specs.Encode.{rules_bytes}

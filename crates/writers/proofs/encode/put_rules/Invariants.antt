@@ -1,4 +1,4 @@
-use Rattle.std.proofs.Common.{◌≡◌, ◌-◌, ◌≤◌, length, drop, rules}
+use Rattle.std.proofs.Common.{◌≡◌, ◌-◌, ◌≤◌, length, drop}
 use lib.Seq.{sets}
 use Rattle.extension.specs.Encode.{rules_bytes}
 use Rattle.writers.proofs.encode.put_rules.Given as goal

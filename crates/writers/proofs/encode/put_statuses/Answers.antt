@@ -1,4 +1,4 @@
-use Rattle.std.proofs.Common.{◌-◌, get_or, drop, pos, sym, refl, ◌∙◌, arith, w16, rules}
+use Rattle.std.proofs.Common.{get_or, drop, pos, sym, refl, ◌∙◌, arith, w16, rules}
 use mir.ValLaws.{to_z-of_z}
 use Rattle.codec.proofs.Laws.Output.{sets-out}
 use Rattle.extension.specs.Encode.{status_list, statuses_bytes}

@@ -1,4 +1,4 @@
-use Rattle.std.proofs.Common.{◌-◌, length, get_or, ap, arith, rules}
+use Rattle.std.proofs.Common.{length, get_or, ap, arith}
 use Rattle.codec.proofs.Laws.VlqTrip.{at-most-ten}
 use Rattle.writers.proofs.Laws.Encode.{rules-end, rules-length}
 use Rattle.writers.proofs.encode.rules_size.Goals as goal

@@ -1,4 +1,4 @@
-use Rattle.std.proofs.Common.{◌-◌, arith, w16}
+use Rattle.std.proofs.Common.{arith, w16}
 use mir.ValLaws.{to_z-of_z}
 use Rattle.writers.proofs.Laws.Encode.{statuses-size-end, statuses-size-short, statuses-size-here}
 use Rattle.writers.proofs.encode.statuses_size.Goals as goal

@@ -1,4 +1,4 @@
-use Rattle.std.proofs.Common.{◌-◌, sym, ◌∙◌, arith, rules}
+use Rattle.std.proofs.Common.{sym, ◌∙◌, arith, rules}
 use Rattle.writers.proofs.Laws.Fields.{fields-end, value-short, values-too, values-left, fields-put}
 use Rattle.writers.proofs.fields.put_fields.Goals as goal
 

@@ -23,13 +23,13 @@ returns-then-out-first c = let l : length c.args.header_id ≡ 32 = search rules
 
 pub returns-then-out-first-2 : goal.returns-then-out-first-2
 returns-then-out-first-2 c = let l : length c.args.header_id ≡ 32 = search rules in record {
-      out_after = pack-short-fields _ _ _ c.survey_fields-w.ensures c.pack_refusal-e.ensures l c.if-e-ne0.false c.size-first.ensures c.if-out-first.false c.if-out-first-2.true;
-      back = packed-back _ _ l;
-    }
+  out_after = pack-short-fields _ _ _ c.survey_fields-w.ensures c.pack_refusal-e.ensures l c.if-e-ne0.false c.size-first.ensures c.if-out-first.false c.if-out-first-2.true;
+  back = packed-back _ _ l;
+}
 
 pub returns : goal.returns
 returns c = let l : length c.args.header_id ≡ 32 = search rules in record {
-      out_after = pack-done _ _ _ c.survey_fields-w.ensures c.pack_refusal-e.ensures l c.if-e-ne0.false c.size-first.ensures c.if-out-first.false c.if-out-first-2.false
-          c.put_bytes.ensures c.put.ensures c.put_bytes-2.ensures;
-      back = packed-back _ _ l;
-    }
+  out_after = pack-done _ _ _ c.survey_fields-w.ensures c.pack_refusal-e.ensures l c.if-e-ne0.false c.size-first.ensures c.if-out-first.false c.if-out-first-2.false
+      c.put_bytes.ensures c.put.ensures c.put_bytes-2.ensures;
+  back = packed-back _ _ l;
+}

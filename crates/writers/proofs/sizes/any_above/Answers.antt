@@ -1,4 +1,4 @@
-use Rattle.std.proofs.Common.{◌-◌, ltb, sym, ◌∙◌, arith, le-ltb, lt-ltb}
+use Rattle.std.proofs.Common.{ltb, sym, ◌∙◌, arith, le-ltb, lt-ltb}
 use Rattle.writers.proofs.Laws.Sizes.{any-end, any_found, any-past}
 use Rattle.writers.proofs.sizes.any_above.Goals as goal
 

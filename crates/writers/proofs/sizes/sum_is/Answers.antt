@@ -1,4 +1,4 @@
-use Rattle.std.proofs.Common.{◌-◌, sym, ◌∙◌, arith}
+use Rattle.std.proofs.Common.{sym, ◌∙◌, arith}
 use Rattle.writers.proofs.Laws.Sizes.{sum-none, sum_over, sum-next}
 use Rattle.writers.proofs.sizes.sum_is.Goals as goal
 

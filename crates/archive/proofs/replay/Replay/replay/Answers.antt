@@ -6,10 +6,10 @@ use Rattle.archive.proofs.replay.Replay.replay.Goals as goal
 
 pub returns-then-p-rec : goal.returns-then-p-rec
 returns-then-p-rec c = record {
-      value = (promised _ _ _ (c.refused.ensures ∙ record-more _ _ _ c.read_record.ensures.value _ c.in-Whole.is c.if-p-rec.true)).0;
-      exhausted = (promised _ _ _ (c.refused.ensures ∙ record-more _ _ _ c.read_record.ensures.value _ c.in-Whole.is c.if-p-rec.true)).1.0;
-      least = (promised _ _ _ (c.refused.ensures ∙ record-more _ _ _ c.read_record.ensures.value _ c.in-Whole.is c.if-p-rec.true)).1.1;
-    }
+  value = (promised _ _ _ (c.refused.ensures ∙ record-more _ _ _ c.read_record.ensures.value _ c.in-Whole.is c.if-p-rec.true)).0;
+  exhausted = (promised _ _ _ (c.refused.ensures ∙ record-more _ _ _ c.read_record.ensures.value _ c.in-Whole.is c.if-p-rec.true)).1.0;
+  least = (promised _ _ _ (c.refused.ensures ∙ record-more _ _ _ c.read_record.ensures.value _ c.in-Whole.is c.if-p-rec.true)).1.1;
+}
 
 pub slice_bounds-on_parts-count : goal.slice_bounds-on_parts-count
 slice_bounds-on_parts-count c = (parts-inside _ _ _ (sym c.in-Whole.is ∙ c.read_record.ensures.value)).body-ordered
@@ -31,21 +31,21 @@ on_parts-requires c = votes-long _ _ _ (sym c.in-Whole.is ∙ c.read_record.ensu
 
 pub returns-else-p-rec : goal.returns-else-p-rec
 returns-else-p-rec c = record {
-      value = (promised _ _ _ (c.on_parts.ensures ∙ record-whole _ _ _ c.read_record.ensures.value _ c.in-Whole.is c.if-p-rec.false)).0;
-      exhausted = (promised _ _ _ (c.on_parts.ensures ∙ record-whole _ _ _ c.read_record.ensures.value _ c.in-Whole.is c.if-p-rec.false)).1.0;
-      least = (promised _ _ _ (c.on_parts.ensures ∙ record-whole _ _ _ c.read_record.ensures.value _ c.in-Whole.is c.if-p-rec.false)).1.1;
-    }
+  value = (promised _ _ _ (c.on_parts.ensures ∙ record-whole _ _ _ c.read_record.ensures.value _ c.in-Whole.is c.if-p-rec.false)).0;
+  exhausted = (promised _ _ _ (c.on_parts.ensures ∙ record-whole _ _ _ c.read_record.ensures.value _ c.in-Whole.is c.if-p-rec.false)).1.0;
+  least = (promised _ _ _ (c.on_parts.ensures ∙ record-whole _ _ _ c.read_record.ensures.value _ c.in-Whole.is c.if-p-rec.false)).1.1;
+}
 
 pub returns-in-Short : goal.returns-in-Short
 returns-in-Short c = record {
-      value = (promised _ _ _ (c.refused-in-Short.ensures ∙ record-short _ _ _ c.read_record.ensures.value _ c.in-Short.is)).0;
-      exhausted = (promised _ _ _ (c.refused-in-Short.ensures ∙ record-short _ _ _ c.read_record.ensures.value _ c.in-Short.is)).1.0;
-      least = (promised _ _ _ (c.refused-in-Short.ensures ∙ record-short _ _ _ c.read_record.ensures.value _ c.in-Short.is)).1.1;
-    }
+  value = (promised _ _ _ (c.refused-in-Short.ensures ∙ record-short _ _ _ c.read_record.ensures.value _ c.in-Short.is)).0;
+  exhausted = (promised _ _ _ (c.refused-in-Short.ensures ∙ record-short _ _ _ c.read_record.ensures.value _ c.in-Short.is)).1.0;
+  least = (promised _ _ _ (c.refused-in-Short.ensures ∙ record-short _ _ _ c.read_record.ensures.value _ c.in-Short.is)).1.1;
+}
 
 pub returns-in-Malformed : goal.returns-in-Malformed
 returns-in-Malformed c = record {
-      value = (promised _ _ _ (c.refused-in-Malformed.ensures ∙ record-malformed _ _ _ c.read_record.ensures.value c.in-Malformed.is)).0;
-      exhausted = (promised _ _ _ (c.refused-in-Malformed.ensures ∙ record-malformed _ _ _ c.read_record.ensures.value c.in-Malformed.is)).1.0;
-      least = (promised _ _ _ (c.refused-in-Malformed.ensures ∙ record-malformed _ _ _ c.read_record.ensures.value c.in-Malformed.is)).1.1;
-    }
+  value = (promised _ _ _ (c.refused-in-Malformed.ensures ∙ record-malformed _ _ _ c.read_record.ensures.value c.in-Malformed.is)).0;
+  exhausted = (promised _ _ _ (c.refused-in-Malformed.ensures ∙ record-malformed _ _ _ c.read_record.ensures.value c.in-Malformed.is)).1.0;
+  least = (promised _ _ _ (c.refused-in-Malformed.ensures ∙ record-malformed _ _ _ c.read_record.ensures.value c.in-Malformed.is)).1.1;
+}
