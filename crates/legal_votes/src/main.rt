@@ -9,6 +9,8 @@ ghost use Rattle.legal_votes.specs.Prints.{Prints};
 use legal::listing;
 use legal::next::NextVotes;
 use ports::Sent;
+use std::env::{Env, FillError};
+use std::io::{Eprint, Write};
 
 const STANDARD_OUTPUT: u32 = 1;
 
@@ -16,15 +18,14 @@ const STANDARD_OUTPUT: u32 = 1;
 const MOST: usize = 0x1_0000;
 
 // Three lines.
-fn tell() {
-    io::write_all(
-        libc::STDERR_FILENO,
-        b"legal_votes: prints every header that the header check accepts, as a number\nof 24 bits, the first vote byte highest: one decimal number a line, in rising\norder. It takes no words.\n",
+fn tell(rt: &impl Eprint) {
+    let _ = rt.eprint(
+        "legal_votes: prints every header that the header check accepts, as a number\nof 24 bits, the first vote byte highest: one decimal number a line, in rising\norder. It takes no words.\n",
     );
 }
 
 // Piece after piece, until the end or a write that failed.
-fn print_all(to: u32, out: &mut [u8]) -> Sent
+fn print_all<W: Write>(rt: &impl Eprint, sink: &mut W, to: u32, out: &mut [u8]) -> Sent
     requires { line_most ≤ length out.old }
     ensures { Prints to result }
 {
@@ -33,7 +34,7 @@ fn print_all(to: u32, out: &mut [u8]) -> Sent
     loop {
         let filled = listing::fill(at, out);
         let n = filled.wrote;
-        let sent = ports::send(handed, &out[0..n]);
+        let sent = ports::send(rt, sink, handed, &out[0..n]);
         handed = sent.output;
         if sent.failed {
             return Sent {
@@ -56,17 +57,23 @@ fn print_all(to: u32, out: &mut [u8]) -> Sent
     }
 }
 
-fn print_in(out: &mut [u8; MOST]) -> Sent
+fn print_in<W: Write>(rt: &impl Eprint, sink: &mut W, out: &mut [u8; MOST]) -> Sent
     ensures { Prints 1 result }
 {
-    print_all(STANDARD_OUTPUT, out)
+    print_all(rt, sink, STANDARD_OUTPUT, out)
 }
 
-fn main() {
-    if 1 < os::arg_count() {
-        tell();
+// Whether there is a word, of any length, at a place behind the program's name.
+fn has_word(rt: &impl Env, place: usize) -> bool {
+    let mut start = [0u8; 1];
+    !matches!(rt.arg(place, &mut start), Err(FillError::NotPresent))
+}
+
+fn main(rt: HostRuntime) {
+    if has_word(&rt, 1) {
+        tell(&rt);
         return;
     }
     let mut out = [0u8; MOST];
-    print_in(&mut out);
+    print_in(&rt, &mut rt.stdout(), &mut out);
 }

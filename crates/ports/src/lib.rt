@@ -1,9 +1,15 @@
-// A descriptor that is read and one that is written, each with a value that stands for the bytes that went through it. Only these calls make
-// such a value.
+// A reader that is read and a writer that is written, each with a value that stands for the bytes that went through it, under the number of a
+// descriptor. Only these calls make such a value.
 #![tactic(auto)]
 
-ghost use Rattle.std.specs.Prelude.{◌≡◌, ◌+◌, ◌%◌, ◌^◌, ◌≤◌, false, length, take};
+ghost use Rattle.std.specs.Prelude.{◌≡◌, ◌+◌, ◌%◌, ◌^◌, ◌<◌, ◌≤◌, false, length, take, IfOk, OnOk, OnErr};
+ghost use Rattle.std.specs.Io.{ReadsAtMost};
+ghost use Rattle.std.specs.Io.KnownBytes.{Keeps, Appends, Consumes, IsAtEnd};
 ghost use Rattle.ports.specs.Ports.{unread, unwritten, read_by, stopped_by, came, wrote, handed_by, sent};
+
+use std::fmt::InlineText;
+use std::io;
+use std::io::{Eprint, ErrorKind, Read, Write};
 
 // All that was read so far: its number of bytes, modulo 2^64; and how it ended.
 #[derive(Clone, Copy)]
@@ -42,13 +48,6 @@ pub struct Sent {
     pub failed: bool,
 }
 
-// How far a text was written, and whether a write failed.
-#[derive(Clone, Copy)]
-struct Put {
-    at: usize,
-    failed: bool,
-}
-
 pub fn no_input(descriptor: u32) -> Input
     ensures { result ≡ unread descriptor }
 {
@@ -70,19 +69,20 @@ pub fn no_output(descriptor: u32) -> Output
 }
 
 // Reads once, and again where a signal interrupted it. A read that failed is told on standard error with its cause.
-pub fn receive(input: Input, buf: &mut [u8]) -> Came
-    ensures { (result.count ≤ length buf.new) × (result.input ≡ came result.failed result.count input (take result.count buf.new)) }
+pub fn receive<R: Read>(rt: &impl Eprint, source: &mut R, input: Input, buf: &mut [u8]) -> Came
+    ensures within { result.count ≤ length buf.new }
+    ensures booked { result.input ≡ came result.failed result.count input (take result.count buf.new) }
+    ensures bytes { Consumes (R.remaining source.old) (R.remaining source.new) (take result.count buf.new) }
+    ensures end { result.failed ≡ false → result.count ≡ 0 → 0 < length buf.old → IsAtEnd (R.remaining source.new) }
 {
-    let got = read_on(input.descriptor, buf);
-    if got < 0 {
-        os::fail(b"a read failed");
-        return stopped(input, BROKEN, true);
+    match read_on(source, buf) {
+        Ok(0) => stopped(input, ENDED, false),
+        Ok(n) => reached(input, n),
+        Err(error) => {
+            tell(rt, "a read failed", error);
+            stopped(input, BROKEN, true)
+        }
     }
-    let n = io::count(got, buf);
-    if n == 0 {
-        return stopped(input, ENDED, false);
-    }
-    reached(input, n)
 }
 
 fn stopped(input: Input, end: u8, failed: bool) -> Came
@@ -115,14 +115,17 @@ fn reached(input: Input, n: usize) -> Came
 }
 
 // Writes a text whole, or says that a write failed, and tells its cause on standard error.
-pub fn send(output: Output, text: &[u8]) -> Sent
-    ensures { result.output ≡ sent result.failed (wrote output text.now) }
+pub fn send<W: Write>(rt: &impl Eprint, sink: &mut W, output: Output, text: &[u8]) -> Sent
+    ensures booked { result.output ≡ sent result.failed (wrote output text.now) }
+    ensures bytes { result.failed ≡ false → Appends (W.contents sink.old) (W.contents sink.new) text.now }
 {
-    if write_on(output.descriptor, text) {
-        os::fail(b"a write failed");
-        return handed(output, text.len(), true, true);
+    match sink.write_all(text) {
+        Ok(()) => handed(output, text.len(), output.cut, false),
+        Err(error) => {
+            tell(rt, "a write failed", error);
+            handed(output, text.len(), true, true)
+        }
     }
-    handed(output, text.len(), output.cut, false)
 }
 
 fn handed(output: Output, n: usize, cut: bool, failed: bool) -> Sent
@@ -142,64 +145,40 @@ fn handed(output: Output, n: usize, cut: bool, failed: bool) -> Sent
 fn counted(before: u64, n: usize) -> u64
     ensures { result ≡ (before + n) % 2 ^ 64 }
 {
-    std::num::wrapping_add_u64(before, n as u64)
+    before.wrapping_add(n as u64)
 }
 
-fn interrupted(got: isize) -> bool {
-    if got < 0 {
-        return os::errno() == libc::EINTR;
+// Tells on standard error what failed, and its cause. Nothing more can be told where that fails.
+pub fn tell(rt: &impl Eprint, what: &str, error: io::Error) {
+    let text = InlineText::<256>::of(error);
+    let cause = without_number(text.as_str());
+    let _ = rt.eprintln(format_args!("{what}: {cause}"));
+}
+
+// An error's text without the system's number of it.
+fn without_number(text: &str) -> &str {
+    match text.find(" (os error ") {
+        Some(end) => &text[..end],
+        None => text,
     }
-    false
 }
 
-// C's number of a descriptor; there is none from 2^31 up.
-fn number(descriptor: u32) -> i32 {
-    if descriptor <= 0x7fff_ffff {
-        return descriptor as i32;
-    }
-    -1
-}
-
-// What the first read that no signal interrupted answers. The turns are counted down from a number that no run uses up.
-fn read_on(descriptor: u32, buf: &mut [u8]) -> isize {
-    let mut turns = u64::MAX;
-    while 0 < turns {
-        let got = libc::read(number(descriptor), buf);
-        if !interrupted(got) {
-            return got;
-        }
-        turns -= 1;
-    }
-    -1
-}
-
-// Writes on until all is written or a write fails; whether one failed.
-fn write_on(descriptor: u32, text: &[u8]) -> bool {
-    let mut at: usize = 0;
-    let mut turns = u64::MAX;
-    while 0 < turns {
-        if text.len() <= at {
-            return false;
-        }
-        let put = write_from(descriptor, text, at);
-        if put.failed {
-            return true;
-        }
-        at = put.at;
-        turns -= 1;
-    }
-    true
-}
-
-// One write of a text from a position on. A write that takes nothing is one that failed.
-fn write_from(descriptor: u32, text: &[u8], at: usize) -> Put
-    requires { at ≤ length text.now }
-    ensures { result.at ≤ length text.now }
+// What the first read that no signal interrupted answers. The turns are counted, up to a number that no run uses up.
+fn read_on<R: Read>(source: &mut R, buf: &mut [u8]) -> io::Result<usize>
+    ensures bound { ReadsAtMost result buf.new }
+    ensures ok { IfOk result (λ n. Consumes (R.remaining source.old) (R.remaining source.new) (take n buf.new)) }
+    ensures end { IfOk result (λ n. n ≡ 0 → 0 < length buf.old → IsAtEnd (R.remaining source.new)) }
+    ensures err { OnErr result (Keeps (R.remaining source.old) (R.remaining source.new)) }
 {
-    let put = libc::write(number(descriptor), &text[at..]);
-    let n = io::count(put, &text[at..]);
-    Put {
-        at: at + n,
-        failed: (n == 0) & !interrupted(put),
+    for _ in 0..u64::MAX {
+        match source.read(buf) {
+            Ok(n) => return Ok(n),
+            Err(error) => {
+                if error.kind() != ErrorKind::Interrupted {
+                    return Err(error);
+                }
+            }
+        }
     }
+    Err(io::Error::from(ErrorKind::Interrupted))
 }

@@ -1,5 +1,5 @@
-// Replays records from one descriptor on mainnet and writes what is printed to another. docs/RULES.md, "Replay". Bytes are only moved here:
-// library `stream` says what is taken and what is printed, and library `ports` what was read and handed over.
+// Replays records of a reader on mainnet and writes what is printed to a writer. docs/RULES.md, "Replay". Bytes are only moved here: library
+// `stream` says what is taken and what is printed, and library `ports` what was read and handed over, each under the number of a descriptor.
 #![tactic(auto)]
 
 ghost use Rattle.std.specs.Prelude.{◌≡◌, false, ◌||◌, cond, ◌≤◌, min, ltb, eqb, length};
@@ -13,6 +13,7 @@ ghost use Rattle.replay_io.specs.Replays.{most, front, Feeding, Reading, Replays
 use codec::output::Wrote;
 use codec::refusal;
 use ports::{Input, Output, Sent};
+use std::io::{Eprint, Read, Write};
 use stream::run::Run;
 use stream::{lines, run};
 
@@ -39,9 +40,17 @@ struct Passed {
     failed: bool,
 }
 
-// Reads the records from a descriptor, at most so many bytes at a time, and writes what is printed to another, at most so many bytes at a time.
+// Reads the records from a reader, at most so many bytes at a time, and writes what is printed to a writer, at most so many bytes at a time.
 // It reads to the end, to the first refusal, or to a read or a write that failed, and writes the lines of each piece after reading it.
-pub fn replay(from: u32, to: u32, piece: usize, room: usize) -> Done
+pub fn replay<R: Read, W: Write>(
+    rt: &impl Eprint,
+    source: &mut R,
+    sink: &mut W,
+    from: u32,
+    to: u32,
+    piece: usize,
+    room: usize,
+) -> Done
     ensures replays { Replays from to result }
     ensures refused { result.refusal ≡ cond (eqb piece 0 || ltb room line_most) output_short 0 }
 {
@@ -52,6 +61,9 @@ pub fn replay(from: u32, to: u32, piece: usize, room: usize) -> Done
     let mut buf = [0u8; MOST];
     let mut out = [0u8; MOST];
     replay_in(
+        rt,
+        source,
+        sink,
         from,
         to,
         &mut cells,
@@ -114,7 +126,10 @@ fn stopped(
 }
 
 // The buffers, of which so many bytes are used.
-fn replay_in(
+fn replay_in<R: Read, W: Write>(
+    rt: &impl Eprint,
+    source: &mut R,
+    sink: &mut W,
     from: u32,
     to: u32,
     cells: &mut [u8; run::MAINNET_LONGEST],
@@ -126,10 +141,13 @@ fn replay_in(
     requires { (piece ≤ most) × (room ≤ most) × (line_most ≤ room) }
     ensures { Replays from to result × (result.refusal ≡ 0) }
 {
-    replay_by(from, to, cells, buf, out, piece, room)
+    replay_by(rt, source, sink, from, to, cells, buf, out, piece, room)
 }
 
-fn replay_by(
+fn replay_by<R: Read, W: Write>(
+    rt: &impl Eprint,
+    source: &mut R,
+    sink: &mut W,
     from: u32,
     to: u32,
     cells: &mut [u8],
@@ -141,26 +159,49 @@ fn replay_by(
     requires { (longest_record mainnet ≤ length cells.old) × (piece ≤ length buf.old) × (room ≤ length out.old) × (line_most ≤ room) }
     ensures { Replays from to result × (result.refusal ≡ 0) }
 {
-    replay_from(from, to, cells, &mut buf[0..piece], &mut out[0..room])
+    replay_from(
+        rt,
+        source,
+        sink,
+        from,
+        to,
+        cells,
+        &mut buf[0..piece],
+        &mut out[0..room],
+    )
 }
 
-fn replay_from(from: u32, to: u32, cells: &mut [u8], buf: &mut [u8], out: &mut [u8]) -> Done
+fn replay_from<R: Read, W: Write>(
+    rt: &impl Eprint,
+    source: &mut R,
+    sink: &mut W,
+    from: u32,
+    to: u32,
+    cells: &mut [u8],
+    buf: &mut [u8],
+    out: &mut [u8],
+) -> Done
     requires { (longest_record mainnet ≤ length cells.old) × (line_most ≤ length out.old) }
     ensures { Replays from to result × (result.refusal ≡ 0) }
 {
     let run = run::begin_mainnet();
     let input = ports::no_input(from);
-    let sent = send_head(out, ports::no_output(to));
+    let sent = send_head(rt, sink, out, ports::no_output(to));
     let output = sent.output;
     if sent.failed {
         return stopped(input, output, false, false, true, false);
     }
-    read_all(from, to, run, cells, buf, out, input, output)
+    read_all(
+        rt, source, sink, from, to, run, cells, buf, out, input, output,
+    )
 }
 
 // Reads to the end, to the first refusal, or to a read or a write that failed. The turns are counted down from a number that no run uses up, since
 // nothing says that an input ends; each reads a byte at least.
-fn read_all(
+fn read_all<R: Read, W: Write>(
+    rt: &impl Eprint,
+    source: &mut R,
+    sink: &mut W,
     from: u32,
     to: u32,
     run: Run,
@@ -179,20 +220,20 @@ fn read_all(
     let mut turns = u64::MAX;
     while 0 < turns {
         turns -= 1;
-        let came = ports::receive(got, buf);
+        let came = ports::receive(rt, source, got, buf);
         got = came.input;
         if came.failed {
-            let sent = send_fail(state, cells, out, handed);
+            let sent = send_fail(rt, sink, state, cells, out, handed);
             let last = sent.output;
             return stopped(got, last, false, true, sent.failed, false);
         }
         let n = came.count;
         if n == 0 {
-            let sent = send_finish(state, cells, out, handed);
+            let sent = send_finish(rt, sink, state, cells, out, handed);
             let last = sent.output;
             return stopped(got, last, true, false, sent.failed, false);
         }
-        let passed = feed_piece(state, cells, &buf[0..n], out, handed);
+        let passed = feed_piece(rt, sink, state, cells, &buf[0..n], out, handed);
         state = passed.run;
         handed = passed.output;
         if passed.failed {
@@ -206,7 +247,15 @@ fn read_all(
 }
 
 // Feeds a piece, and hands over its lines; stops where a write failed.
-fn feed_piece(run: Run, cells: &mut [u8], piece: &[u8], out: &mut [u8], output: Output) -> Passed
+fn feed_piece<W: Write>(
+    rt: &impl Eprint,
+    sink: &mut W,
+    run: Run,
+    cells: &mut [u8],
+    piece: &[u8],
+    out: &mut [u8],
+    output: Output,
+) -> Passed
     requires { Ready run cells.old × (line_most ≤ length out.old) }
     ensures { Feeding run cells.old piece.now output result.at result.run cells.new result.failed result.output
         × (result.failed ≡ false → length piece.now ≤ result.at) }
@@ -217,7 +266,7 @@ fn feed_piece(run: Run, cells: &mut [u8], piece: &[u8], out: &mut [u8], output: 
     while at < piece.len() {
         let fed = run::feed(state, cells, &piece[at..], out);
         let n = fed.wrote;
-        let sent = hand_over(handed, out, n);
+        let sent = hand_over(rt, sink, handed, out, n);
         state = fed.run;
         handed = sent.output;
         at += fed.used;
@@ -239,19 +288,19 @@ fn feed_piece(run: Run, cells: &mut [u8], piece: &[u8], out: &mut [u8], output: 
 }
 
 // Hands over what stands at the start of the buffer.
-fn hand_over(output: Output, out: &[u8], n: usize) -> Sent
+fn hand_over<W: Write>(rt: &impl Eprint, sink: &mut W, output: Output, out: &[u8], n: usize) -> Sent
     requires { n ≤ length out.now }
     ensures { result.output ≡ sent result.failed (wrote output (front n out.now)) }
 {
-    ports::send(output, &out[0..n])
+    ports::send(rt, sink, output, &out[0..n])
 }
 
-fn send_head(out: &mut [u8], output: Output) -> Sent
+fn send_head<W: Write>(rt: &impl Eprint, sink: &mut W, out: &mut [u8], output: Output) -> Sent
     requires { line_most ≤ length out.old }
     ensures { result.output ≡ sent result.failed (wrote output head_line) }
 {
     match lines::write_head(out) {
-        Wrote::Bytes(n) => hand_over(output, out, n),
+        Wrote::Bytes(n) => hand_over(rt, sink, output, out, n),
         Wrote::Refused(_) => Sent {
             output,
             failed: true,
@@ -259,18 +308,32 @@ fn send_head(out: &mut [u8], output: Output) -> Sent
     }
 }
 
-fn send_finish(run: Run, cells: &[u8], out: &mut [u8], output: Output) -> Sent
+fn send_finish<W: Write>(
+    rt: &impl Eprint,
+    sink: &mut W,
+    run: Run,
+    cells: &[u8],
+    out: &mut [u8],
+    output: Output,
+) -> Sent
     ensures { result.output ≡ sent result.failed (wrote output (finish_of run cells.now (length out.old)).text) }
 {
     let fed = run::finish(run, cells, out);
     let n = fed.wrote;
-    hand_over(output, out, n)
+    hand_over(rt, sink, output, out, n)
 }
 
-fn send_fail(run: Run, cells: &[u8], out: &mut [u8], output: Output) -> Sent
+fn send_fail<W: Write>(
+    rt: &impl Eprint,
+    sink: &mut W,
+    run: Run,
+    cells: &[u8],
+    out: &mut [u8],
+    output: Output,
+) -> Sent
     ensures { result.output ≡ sent result.failed (wrote output (fail_of run cells.now (length out.old)).text) }
 {
     let fed = run::fail(run, cells, out);
     let n = fed.wrote;
-    hand_over(output, out, n)
+    hand_over(rt, sink, output, out, n)
 }

@@ -3,18 +3,59 @@
 // how many of them differ. docs/VECTORS.md, "Streams".
 #![tactic(auto)]
 
-use codec::{output, signed};
+ghost use Rattle.std.specs.Prelude.{◌≤◌, length};
 
-// What is written goes into a file of the folder that it runs in, whose name is taken away at once.
-fn open_output() -> i32 {
-    let mut name = *b"replay_streams.XXXXXX";
-    let fd = os::create_temp(&mut name);
-    if fd < 0 {
-        os::fail(b"replay_streams");
-        return fd;
+use std::env::{Env, FillError};
+use std::fmt::InlineText;
+use std::fs::File;
+use std::io::{Error, ErrorKind, Print, Read, Write};
+use std::os::fd::AsRawFd;
+use std::{io, str};
+
+// Under which number the bytes that are kept are counted.
+const KEPT: u32 = 1;
+
+// A name and its ending have at most so many bytes.
+const NAME_MOST: usize = 4096;
+
+// Lines have at most so many bytes.
+const LINES_MOST: usize = 0x1_0000;
+
+// What is written: its first bytes, one more than lines can have.
+#[derive(Drop)]
+struct Kept {
+    bytes: [u8; 0x1_0001],
+    len: usize,
+}
+
+impl Write for Kept {
+    fn write(&mut self, buf: &[u8]) -> io::Result<usize> {
+        for b in buf {
+            self.keep(*b);
+        }
+        Ok(buf.len())
     }
-    os::unlink(&name);
-    fd
+
+    fn flush(&mut self) -> io::Result<()> {
+        Ok(())
+    }
+}
+
+impl Kept {
+    fn keep(&mut self, b: u8) {
+        let at = self.len;
+        if at <= LINES_MOST {
+            self.bytes[at] = b;
+            self.len = at + 1;
+        }
+    }
+}
+
+fn kept_none() -> Kept {
+    Kept {
+        bytes: [0; 0x1_0001],
+        len: 0,
+    }
 }
 
 // The bytes up to a position; all where there are fewer.
@@ -25,122 +66,137 @@ fn part(s: &[u8], n: usize) -> &[u8] {
     &s[0..n]
 }
 
-// Opens the file of a name with an ending; below 0 where it can't be opened.
-fn open(name: &[u8], ending: &[u8]) -> i32 {
-    let mut path = io::buffer();
-    output::put_bytes(&mut path, 0, name);
-    output::put_bytes(&mut path, name.len(), ending);
-    open_path(&path, name.len() + ending.len())
+// Opens the file of a name with an ending; an error, that was told, where it can't be opened.
+fn open(rt: &HostRuntime, name: &str, ending: &str) -> io::Result<File> {
+    let path = InlineText::<NAME_MOST>::of(format_args!("{name}{ending}"));
+    open_path(rt, path.as_str())
 }
 
-fn open_path(path: &[u8; 4096], n: usize) -> i32 {
-    let fd = os::open_read(part(path, n));
-    if fd < 0 {
-        os::fail(part(path, n));
+fn open_path(rt: &HostRuntime, path: &str) -> io::Result<File> {
+    let opened = File::open(rt, path);
+    if let Err(error) = &opened {
+        ports::tell(rt, path, *error);
     }
-    fd
+    opened
 }
 
-// Whether a file has these bytes, read from its start, and no more.
-fn holds(fd: i32, lines: &[u8]) -> bool {
-    libc::lseek(fd, 0, libc::SEEK_SET);
-    let mut got = [0u8; 0x1_0001];
-    let n = io::read_full(fd, &mut got);
-    check::same(part(&got, n), lines)
-}
-
-fn run(from: i32, to: i32, piece: usize, room: usize, lines: &[u8]) -> bool {
-    if (from < 0) | (to < 0) {
-        return false;
+// Reads until the buffer is full, the input ends or a read fails; how many bytes stand at its start.
+fn read_full<R: Read>(source: &mut R, buf: &mut [u8]) -> usize
+    ensures { result ≤ length buf.new }
+{
+    let mut at = 0;
+    while at < buf.len() {
+        match source.read(&mut buf[at..]) {
+            Ok(0) => break,
+            Ok(n) => at += n,
+            Err(_) => break,
+        }
     }
-    replay_io::replay(signed::bits_i32(from), signed::bits_i32(to), piece, room);
-    holds(to, lines)
+    at
 }
 
-fn print_answer(piece: usize, room: usize, same: bool) {
-    io::write_all(1, b" ");
-    io::print_decimal(1, piece as u64);
-    io::write_all(1, b"/");
-    io::print_decimal(1, room as u64);
-    if same {
-        io::write_all(1, b" same");
-        return;
+fn run(rt: &HostRuntime, from: io::Result<File>, piece: usize, room: usize, lines: &[u8]) -> bool {
+    match from {
+        Ok(mut file) => {
+            let mut to = kept_none();
+            let descriptor = file.as_raw_fd().cast_unsigned();
+            replay_io::replay(rt, &mut file, &mut to, descriptor, KEPT, piece, room);
+            part(&to.bytes, to.len) == lines
+        }
+        Err(_) => false,
     }
-    io::write_all(1, b" differs");
+}
+
+fn print_answer(rt: &impl Print, piece: usize, room: usize, same: bool) {
+    let answer = if same { "same" } else { "differs" };
+    let _ = rt.print(format_args!(" {piece}/{room} {answer}"));
 }
 
 // Whether what is written, with so many bytes read and written at a time, is what the lines say; prints it.
-fn run_size(name: &[u8], piece: usize, room: usize, lines: &[u8]) -> bool {
-    let from = open(name, b".records");
-    let to = open_output();
-    let same = run(from, to, piece, room, lines);
-    libc::close(from);
-    libc::close(to);
-    print_answer(piece, room, same);
+fn run_size(rt: &HostRuntime, name: &str, piece: usize, room: usize, lines: &[u8]) -> bool {
+    let from = open(rt, name, ".records");
+    let same = run(rt, from, piece, room, lines);
+    print_answer(rt, piece, room, same);
     same
 }
 
-fn run_sizes(name: &[u8], lines: &[u8]) -> bool {
-    let a = run_size(name, 1, 64, lines);
-    let b = run_size(name, 7, 47, lines);
-    let c = run_size(name, 1021, 65536, lines);
-    let d = run_size(name, 65536, 64, lines);
+fn run_sizes(rt: &HostRuntime, name: &str, lines: &[u8]) -> bool {
+    let a = run_size(rt, name, 1, 64, lines);
+    let b = run_size(rt, name, 7, 47, lines);
+    let c = run_size(rt, name, 1021, 65536, lines);
+    let d = run_size(rt, name, 65536, 64, lines);
     a & b & c & d
 }
 
-// Lines have at most 65,536 bytes.
-fn run_lines(name: &[u8], lines: &[u8; 0x1_0001], n: usize) -> bool {
-    if 0x1_0000 < n {
-        io::write_all(1, b" too long");
+fn run_lines(rt: &HostRuntime, name: &str, lines: &[u8; 0x1_0001], n: usize) -> bool {
+    if LINES_MOST < n {
+        let _ = rt.print(" too long");
         return false;
     }
-    run_sizes(name, part(lines, n))
+    run_sizes(rt, name, part(lines, n))
 }
 
-fn run_pair(name: &[u8]) -> bool {
-    let fd = open(name, b".lines");
-    if fd < 0 {
-        io::write_all(1, b" not opened");
-        return false;
+fn run_pair(rt: &HostRuntime, name: &str) -> bool {
+    match open(rt, name, ".lines") {
+        Ok(mut file) => {
+            let mut lines = [0u8; 0x1_0001];
+            let n = read_full(&mut file, &mut lines);
+            run_lines(rt, name, &lines, n)
+        }
+        Err(_) => unopened(rt),
     }
-    let mut lines = [0u8; 0x1_0001];
-    let n = io::read_full(fd, &mut lines);
-    libc::close(fd);
-    run_lines(name, &lines, n)
 }
 
-// Runs the pair that an argument names, and prints what came of it.
-fn run_argument(i: usize) -> bool {
-    let mut name = io::buffer();
-    let n = os::arg(i, &mut name);
-    io::write_all(1, &name[..n]);
-    io::write_all(1, b":");
-    let same = run_pair(&name[..n]);
-    io::write_all(1, b"\n");
+fn unopened(rt: &impl Print) -> bool {
+    let _ = rt.print(" not opened");
+    false
+}
+
+// Runs the pair that a name names, and prints what came of it. A file's name is text in UTF-8.
+fn run_name(rt: &HostRuntime, name: &[u8]) -> bool {
+    let _ = rt.write_all(name);
+    let _ = rt.print(":");
+    let same = match str::from_utf8(name) {
+        Ok(text) => run_pair(rt, text),
+        Err(_) => {
+            ports::tell(rt, "a name", Error::from(ErrorKind::InvalidFilename));
+            unopened(rt)
+        }
+    };
+    let _ = rt.print("\n");
     same
 }
 
-fn print_counts(pairs: u64, differ: u64) {
-    io::print_decimal(1, pairs);
-    io::write_all(1, b" run, ");
-    io::print_decimal(1, differ);
-    io::write_all(1, b" differ\n");
+fn print_counts(rt: &impl Print, pairs: u64, differ: u64) {
+    let _ = rt.print(format_args!("{pairs} run, {differ} differ\n"));
 }
 
 fn one_if(b: bool) -> u64 {
     if b { 1 } else { 0 }
 }
 
-fn main() {
-    let n = os::arg_count();
+// The argument at a place, put into a buffer: how many bytes it has, 0 where it is too long; none behind the last.
+fn argument(rt: &impl Env, place: usize, name: &mut [u8]) -> Option<usize> {
+    match rt.arg(place, name) {
+        Ok(n) => Some(n),
+        Err(FillError::TooLong) => Some(0),
+        Err(FillError::NotPresent) => None,
+    }
+}
+
+fn main(rt: HostRuntime) {
     let mut pairs: u64 = 0;
     let mut differ: u64 = 0;
-    let mut i: usize = 1;
-    while i < n {
-        let same = run_argument(i);
-        pairs = std::num::wrapping_add_u64(pairs, 1);
-        differ = std::num::wrapping_add_u64(differ, one_if(!same));
-        i += 1;
+    for place in 1..usize::MAX {
+        let mut name = [0u8; NAME_MOST];
+        match argument(&rt, place, &mut name) {
+            Some(n) => {
+                let same = run_name(&rt, part(&name, n));
+                pairs = pairs.wrapping_add(1);
+                differ = differ.wrapping_add(one_if(!same));
+            }
+            None => break,
+        }
     }
-    print_counts(pairs, differ);
+    print_counts(&rt, pairs, differ);
 }

@@ -36,61 +36,61 @@ fn byte_of(s: &[u8]) -> u8 {
     numbers::byte_at(s, 0)
 }
 
-pub(crate) fn with_one(name: &[u8], a: &[u8], n: usize, out: &mut [u8]) -> u16 {
-    if check::same(name, b"check_header_votes") {
+pub(crate) fn with_one(name: &str, a: &[u8], n: usize, out: &mut [u8]) -> u16 {
+    if name == "check_header_votes" {
         return votes::ergo_check_header_votes(a) as u16;
     }
-    if check::same(name, b"check_headers") {
+    if name == "check_headers" {
         return votes::ergo_check_headers(a) as u16;
     }
-    if check::same(name, b"check_body") {
+    if name == "check_body" {
         return body::ergo_check_body(a) as u16;
     }
-    if check::same(name, b"parse_extension_bytes") {
+    if name == "parse_extension_bytes" {
         return body::ergo_parse_extension_bytes(a, out) as u16;
     }
-    if check::same(name, b"parse_validation_settings_update") {
+    if name == "parse_validation_settings_update" {
         return update::ergo_parse_validation_settings_update(a, out) as u16;
     }
     of_bytes(name, a, n, out)
 }
 
-fn of_bytes(name: &[u8], a: &[u8], n: usize, out: &mut [u8]) -> u16 {
-    if check::same(name, b"parse_parameters_from_kv") {
+fn of_bytes(name: &str, a: &[u8], n: usize, out: &mut [u8]) -> u16 {
+    if name == "parse_parameters_from_kv" {
         return sized(body::ergo_parse_parameters_from_kv(a, out), n);
     }
-    if check::same(name, b"extract_disabling_rules_from_kv") {
+    if name == "extract_disabling_rules_from_kv" {
         return sized(body::ergo_extract_disabling_rules_from_kv(a, out), n);
     }
-    if check::same(name, b"pack_parameters_to_kv") {
+    if name == "pack_parameters_to_kv" {
         return sized(writing::ergo_pack_parameters_to_kv(a, out), n);
     }
-    if check::same(name, b"encode_disabled_rules") {
+    if name == "encode_disabled_rules" {
         return sized(encode_disabled_rules(a, out), n);
     }
-    if check::same(name, b"table_parameters") {
+    if name == "table_parameters" {
         return sized(tables::ergo_table_parameters(a, out), n);
     }
     of_number(name, a, out)
 }
 
-fn of_number(name: &[u8], a: &[u8], out: &mut [u8]) -> u16 {
-    if check::same(name, b"default_parameters") {
+fn of_number(name: &str, a: &[u8], out: &mut [u8]) -> u16 {
+    if name == "default_parameters" {
         return tables::ergo_default_parameters(byte_of(a), out) as u16;
     }
-    if check::same(name, b"voting_config") {
+    if name == "voting_config" {
         return tables::ergo_voting_config(byte_of(a), out) as u16;
     }
-    if check::same(name, b"parameter_min") {
+    if name == "parameter_min" {
         return tables::ergo_parameter_min(signed::i8_of(byte_of(a)), out) as u16;
     }
-    if check::same(name, b"parameter_max") {
+    if name == "parameter_max" {
         return tables::ergo_parameter_max(signed::i8_of(byte_of(a)), out) as u16;
     }
-    if check::same(name, b"parameter_step") {
+    if name == "parameter_step" {
         return tables::ergo_parameter_step(signed::i8_of(byte_of(a)), out) as u16;
     }
-    if check::same(name, b"rule_may_not_be_disabled") {
+    if name == "rule_may_not_be_disabled" {
         return flag(update::ergo_rule_may_not_be_disabled(lists::i32_of(a)), out);
     }
     NO_ANSWER
@@ -110,56 +110,56 @@ fn encode_rules(rules: &[u16], n: usize, out: &mut [u8]) -> usize {
     writing::ergo_encode_disabled_rules(&rules[0..n], out)
 }
 
-pub(crate) fn with_two(name: &[u8], a: &[u8], b: &[u8], n: usize, out: &mut [u8]) -> u16 {
-    if check::same(name, b"check_parameters_v6") {
+pub(crate) fn with_two(name: &str, a: &[u8], b: &[u8], n: usize, out: &mut [u8]) -> u16 {
+    if name == "check_parameters_v6" {
         return boundary::ergo_check_parameters_v6(a, b);
     }
-    if check::same(name, b"check_block_version") {
+    if name == "check_block_version" {
         return boundary::ergo_check_block_version(a, byte_of(b)) as u16;
     }
-    if check::same(name, b"soft_fork_approved") {
+    if name == "soft_fork_approved" {
         return flag(tables::ergo_soft_fork_approved(a, lists::i32_of(b)), out);
     }
-    if check::same(name, b"change_approved") {
+    if name == "change_approved" {
         return flag(tables::ergo_change_approved(a, lists::u32_of(b)), out);
     }
-    if check::same(name, b"pack_extension_bytes") {
+    if name == "pack_extension_bytes" {
         return sized(writing::ergo_pack_extension_bytes(a, b, out), n);
     }
     of_two(name, a, b, out)
 }
 
-fn of_two(name: &[u8], a: &[u8], b: &[u8], out: &mut [u8]) -> u16 {
-    if check::same(name, b"field_at") {
+fn of_two(name: &str, a: &[u8], b: &[u8], out: &mut [u8]) -> u16 {
+    if name == "field_at" {
         return body::ergo_field_at(a, lists::u32_of(b) as usize, out) as u16;
     }
-    if check::same(name, b"rule_at") {
+    if name == "rule_at" {
         return update::ergo_rule_at(a, lists::u32_of(b) as usize, out) as u16;
     }
-    if check::same(name, b"status_at") {
+    if name == "status_at" {
         return update::ergo_status_at(a, lists::u32_of(b) as usize, out) as u16;
     }
-    if check::same(name, b"open") {
+    if name == "open" {
         return replay::ergo_open(lists::u32_of(a), b, out) as u16;
     }
-    if check::same(name, b"replay") {
+    if name == "replay" {
         return replay::ergo_replay(out, b);
     }
     NO_ANSWER
 }
 
 pub(crate) fn with_three(
-    name: &[u8],
+    name: &str,
     a: &[u8],
     b: &[u8],
     c: &[u8],
     n: usize,
     out: &mut [u8],
 ) -> u16 {
-    if check::same(name, b"compute_boundary_parameters") {
+    if name == "compute_boundary_parameters" {
         return compute_boundary_parameters(a, b, c, out);
     }
-    if check::same(name, b"pack_fields") {
+    if name == "pack_fields" {
         return sized(pack_fields(a, b, c, out), n);
     }
     NO_ANSWER
@@ -211,18 +211,11 @@ fn computed(x: Computed, out: &mut [u8]) -> u16 {
     }
 }
 
-pub(crate) fn with_four(
-    name: &[u8],
-    a: &[u8],
-    b: &[u8],
-    c: &[u8],
-    d: &[u8],
-    out: &mut [u8],
-) -> u16 {
-    if check::same(name, b"check_fork_vote") {
+pub(crate) fn with_four(name: &str, a: &[u8], b: &[u8], c: &[u8], d: &[u8], out: &mut [u8]) -> u16 {
+    if name == "check_fork_vote" {
         return votes::ergo_check_fork_vote(a, lists::u32_of(b), c, d) as u16;
     }
-    if check::same(name, b"tally_votes_seeded") {
+    if name == "tally_votes_seeded" {
         return votes::ergo_tally_votes_seeded(
             lists::u32_of(a),
             b,
@@ -235,7 +228,7 @@ pub(crate) fn with_four(
 }
 
 pub(crate) fn with_five(
-    name: &[u8],
+    name: &str,
     a: &[u8],
     b: &[u8],
     c: &[u8],
@@ -244,7 +237,7 @@ pub(crate) fn with_five(
     n: usize,
     out: &mut [u8],
 ) -> u16 {
-    if !check::same(name, b"encode_validation_settings_update") {
+    if name != "encode_validation_settings_update" {
         return NO_ANSWER;
     }
     let lists = lists::lists_of(a, b, d);

@@ -8,8 +8,18 @@ mod row;
 mod run;
 mod text;
 
+ghost use Rattle.std.specs.Prelude.{◌≤◌, length};
+
+use std::env::{Env, FillError};
+use std::fs::File;
+use std::io::{Error, ErrorKind, Print, Read};
+use std::str;
+
 // A file has at most so many bytes.
 const FILE_MOST: usize = 0x20_0000;
+
+// A file's name has at most so many bytes.
+const NAME_MOST: usize = 4096;
 
 // The lines so far, the rows among them, and how many of those differ.
 #[derive(Clone, Copy)]
@@ -29,25 +39,20 @@ impl Counts {
         self
     }
 
-    fn row(mut self, agrees: bool) -> Counts {
+    fn row(mut self, rt: &impl Print, agrees: bool) -> Counts {
         self.rows = one_more(self.rows);
         if agrees {
             return self;
         }
         self.differ = one_more(self.differ);
-        print(b"line ", self.lines, b" differs\n");
+        let line = self.lines;
+        let _ = rt.print(format_args!("line {line} differs\n"));
         self
     }
 }
 
-fn print(before: &[u8], n: u64, after: &[u8]) {
-    io::write_all(1, before);
-    io::print_decimal(1, n);
-    io::write_all(1, after);
-}
-
 // A line that is empty or begins with # is no row.
-fn run_line(line: &[u8], bytes: &mut [u8; 0x8_0000], counts: Counts) -> Counts {
+fn run_line(rt: &impl Print, line: &[u8], bytes: &mut [u8; 0x8_0000], counts: Counts) -> Counts {
     let c = counts.line();
     if line.len() == 0 {
         return c;
@@ -56,10 +61,12 @@ fn run_line(line: &[u8], bytes: &mut [u8; 0x8_0000], counts: Counts) -> Counts {
         return c;
     }
     let r = row::read(line, bytes);
-    c.row(run::agrees(text::part(line, 0, r.name), r, bytes))
+    // A name that is no text is no call's.
+    let name = str::from_utf8(text::part(line, 0, r.name)).unwrap_or("");
+    c.row(rt, run::agrees(name, r, bytes))
 }
 
-fn run_lines(lines: &[u8], bytes: &mut [u8; 0x8_0000]) -> Counts {
+fn run_lines(rt: &impl Print, lines: &[u8], bytes: &mut [u8; 0x8_0000]) -> Counts {
     let mut counts = Counts {
         lines: 0,
         rows: 0,
@@ -68,54 +75,90 @@ fn run_lines(lines: &[u8], bytes: &mut [u8; 0x8_0000]) -> Counts {
     let mut at: usize = 0;
     while at < lines.len() {
         let end = text::find(lines, at, b'\n', true);
-        counts = run_line(text::part(lines, at, end), bytes, counts);
+        counts = run_line(rt, text::part(lines, at, end), bytes, counts);
         at = end + 1;
     }
     counts
 }
 
-fn run_text(lines: &[u8; 0x20_0001], n: usize) {
+fn print_counts(rt: &impl Print, counts: Counts) {
+    let rows = counts.rows;
+    let differ = counts.differ;
+    let _ = rt.print(format_args!("{rows} run, {differ} differ\n"));
+}
+
+fn run_text(rt: &impl Print, lines: &[u8; 0x20_0001], n: usize) {
     if FILE_MOST < n {
-        io::write_all(1, b"too long\n");
+        let _ = rt.print("too long\n");
         return;
     }
     let mut bytes = [0u8; 0x8_0000];
-    let counts = run_lines(text::part(lines, 0, n), &mut bytes);
-    print(b"", counts.rows, b" run, ");
-    print(b"", counts.differ, b" differ\n");
+    let counts = run_lines(rt, text::part(lines, 0, n), &mut bytes);
+    print_counts(rt, counts);
 }
 
-// Runs the file that an argument names, and prints what came of it.
-fn run_file(i: usize) {
-    let mut name = io::buffer();
-    let n = os::arg(i, &mut name);
-    io::write_all(1, &name[..n]);
-    io::write_all(1, b"\n");
-    let fd = os::open_read(&name[..n]);
-    if fd < 0 {
-        os::fail(&name[..n]);
-        io::write_all(1, b"not opened\n");
-        return;
+// Runs the file that an argument names, and prints what came of it. A file's name is text in UTF-8.
+fn run_file(rt: &HostRuntime, name: &[u8]) {
+    let _ = rt.write_all(name);
+    let _ = rt.print("\n");
+    match str::from_utf8(name) {
+        Ok(path) => run_path(rt, path),
+        Err(_) => tell_unopened(rt, "a name", Error::from(ErrorKind::InvalidFilename)),
     }
-    run_open(fd);
 }
 
-fn read_file(fd: i32, lines: &mut [u8; 0x20_0001]) -> usize {
-    io::read_full(fd, lines)
+fn run_path(rt: &HostRuntime, path: &str) {
+    match File::open(rt, path) {
+        Ok(mut file) => run_open(rt, &mut file),
+        Err(error) => tell_unopened(rt, path, error),
+    }
 }
 
-fn run_open(fd: i32) {
+fn tell_unopened(rt: &HostRuntime, path: &str, error: Error) {
+    ports::tell(rt, path, error);
+    let _ = rt.print("not opened\n");
+}
+
+// Reads until the buffer is full, the input ends or a read fails; how many bytes stand at its start.
+fn read_full<R: Read>(source: &mut R, buf: &mut [u8]) -> usize
+    ensures { result ≤ length buf.new }
+{
+    let mut at = 0;
+    while at < buf.len() {
+        match source.read(&mut buf[at..]) {
+            Ok(0) => break,
+            Ok(n) => at += n,
+            Err(_) => break,
+        }
+    }
+    at
+}
+
+fn read_file<R: Read>(file: &mut R, lines: &mut [u8; 0x20_0001]) -> usize {
+    read_full(file, lines)
+}
+
+fn run_open(rt: &HostRuntime, file: &mut File) {
     let mut lines = [0u8; 0x20_0001];
-    let n = read_file(fd, &mut lines);
-    libc::close(fd);
-    run_text(&lines, n);
+    let n = read_file(file, &mut lines);
+    run_text(rt, &lines, n);
 }
 
-fn main() {
-    let n = os::arg_count();
-    let mut i: usize = 1;
-    while i < n {
-        run_file(i);
-        i += 1;
+// The argument at a place, put into a buffer: how many bytes it has, 0 where it is too long; none behind the last.
+fn argument(rt: &impl Env, place: usize, name: &mut [u8]) -> Option<usize> {
+    match rt.arg(place, name) {
+        Ok(n) => Some(n),
+        Err(FillError::TooLong) => Some(0),
+        Err(FillError::NotPresent) => None,
+    }
+}
+
+fn main(rt: HostRuntime) {
+    for place in 1..usize::MAX {
+        let mut name = [0u8; NAME_MOST];
+        match argument(&rt, place, &mut name) {
+            Some(n) => run_file(&rt, text::part(&name, 0, n)),
+            None => break,
+        }
     }
 }

@@ -29,7 +29,7 @@ pub(crate) struct Row {
 // The row of a line. Its bytes are put into a lent array.
 pub(crate) fn read(line: &[u8], bytes: &mut [u8; 0x8_0000]) -> Row {
     let end = text::find(line, 0, b' ', true);
-    let mut row = named(end, check::same(text::part(line, 0, end), b"replay"));
+    let mut row = named(end, matches!(text::part(line, 0, end), b"replay"));
     let mut from = end;
     while from < line.len() {
         let to = text::find(line, from + 1, b' ', true);
@@ -59,7 +59,7 @@ impl Row {
 
     // The row after one more group of its line.
     fn after(self, group: &[u8], bytes: &mut [u8; 0x8_0000]) -> Row {
-        if check::same(group, b"=") {
+        if matches!(group, b"=") {
             return self.marked();
         }
         if self.next == NUMBER {

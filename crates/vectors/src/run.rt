@@ -18,7 +18,7 @@ const ENTRY_DIFFERS: u8 = 15;
 const MORE: usize = 3;
 
 // Whether the row's call answers what the row says.
-pub(crate) fn agrees(name: &[u8], row: Row, bytes: &[u8]) -> bool {
+pub(crate) fn agrees(name: &str, row: Row, bytes: &[u8]) -> bool {
     if !row.sound | !told_alone(row, bytes) {
         return false;
     }
@@ -43,7 +43,7 @@ fn told_alone(row: Row, bytes: &[u8]) -> bool {
 }
 
 // Cells that are one too few, where bytes are written.
-fn agrees_short(name: &[u8], row: Row, bytes: &[u8], n: usize) -> bool {
+fn agrees_short(name: &str, row: Row, bytes: &[u8], n: usize) -> bool {
     if row.is_refused() | (row.replays) {
         return true;
     }
@@ -77,13 +77,13 @@ fn left_of(row: Row, bytes: &[u8]) -> &[u8] {
 }
 
 // Whether the call with so many cells answers a code, and leaves these bytes in the cells' start and no other cell changed.
-fn leaves(name: &[u8], row: Row, bytes: &[u8], room: usize, code: u16, left: &[u8]) -> bool {
+fn leaves(name: &str, row: Row, bytes: &[u8], room: usize, code: u16, left: &[u8]) -> bool {
     let mut cells = [UNTOUCHED; 0x4_0000];
     let answered = asked(name, row, bytes, &mut cells, room);
     (answered == code) & holds(&cells, left)
 }
 
-fn asked(name: &[u8], row: Row, bytes: &[u8], cells: &mut [u8], room: usize) -> u16 {
+fn asked(name: &str, row: Row, bytes: &[u8], cells: &mut [u8], room: usize) -> u16 {
     put_state(row, bytes, cells);
     asked_in(name, row, bytes, cells, room)
 }
@@ -95,14 +95,14 @@ fn put_state(row: Row, bytes: &[u8], cells: &mut [u8]) {
     }
 }
 
-fn asked_in(name: &[u8], row: Row, bytes: &[u8], cells: &mut [u8], room: usize) -> u16 {
+fn asked_in(name: &str, row: Row, bytes: &[u8], cells: &mut [u8], room: usize) -> u16 {
     if cells.len() < room {
         return calls::NO_ANSWER;
     }
     ask(name, row, bytes, &mut cells[0..room])
 }
 
-fn ask(name: &[u8], row: Row, bytes: &[u8], out: &mut [u8]) -> u16 {
+fn ask(name: &str, row: Row, bytes: &[u8], out: &mut [u8]) -> u16 {
     let a = row.argument(0, bytes);
     let b = row.argument(1, bytes);
     let n = row.answer(bytes).len();
@@ -114,7 +114,7 @@ fn ask(name: &[u8], row: Row, bytes: &[u8], out: &mut [u8]) -> u16 {
     }
 }
 
-fn ask_more(name: &[u8], row: Row, bytes: &[u8], out: &mut [u8]) -> u16 {
+fn ask_more(name: &str, row: Row, bytes: &[u8], out: &mut [u8]) -> u16 {
     let a = row.argument(0, bytes);
     let b = row.argument(1, bytes);
     let c = row.argument(2, bytes);
@@ -138,6 +138,5 @@ fn ask_more(name: &[u8], row: Row, bytes: &[u8], out: &mut [u8]) -> u16 {
 
 fn holds(cells: &[u8], left: &[u8]) -> bool {
     let n = left.len();
-    check::same(text::part(cells, 0, n), left)
-        & (text::find(cells, n, UNTOUCHED, false) == cells.len())
+    (text::part(cells, 0, n) == left) & (text::find(cells, n, UNTOUCHED, false) == cells.len())
 }

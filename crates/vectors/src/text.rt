@@ -134,7 +134,7 @@ fn put_piece(s: &[u8], bytes: &mut [u8; 0x8_0000], at: usize) -> usize {
 
 // A group: a dash for no bytes, or pieces with + between them; put at a position. The position after them, or OUT_OF_FORM.
 pub(crate) fn put_group(s: &[u8], bytes: &mut [u8; 0x8_0000], at: usize) -> usize {
-    if check::same(s, b"-") {
+    if matches!(s, b"-") {
         return at;
     }
     let mut to = at;

@@ -1,11 +1,11 @@
 use Rattle.ports.proofs.Laws.{received, end-met, read-failed}
 use Rattle.ports.proofs.receive.Goals as goal
 
-pub returns-then-got-lt0 : goal.returns-then-got-lt0
-returns-then-got-lt0 c = read-failed c.args.input _ _ c.stopped.ensures
+pub returns-in-Ok-eq0-clause-booked : goal.returns-in-Ok-eq0-clause-booked
+returns-in-Ok-eq0-clause-booked g c = (end-met c.args.input c.read_on.new.buf _ c.stopped.ensures).1
 
-pub returns-then-n-eq0 : goal.returns-then-n-eq0
-returns-then-n-eq0 c = end-met c.args.input _ _ c.stopped-then-n-eq0.ensures
+pub returns-in-Ok-clause-booked : goal.returns-in-Ok-clause-booked
+returns-in-Ok-clause-booked g c = (received c.args.input c.read_on.new.buf _ c.in-Ok.n c.reached.ensures c.in-Ok.n-test.1 c.in-Ok.ensures.bound).1
 
-pub returns : goal.returns
-returns c = received c.args.input _ _ _ c.reached.ensures c.if-n-eq0.false c.count-n.ensures.in_bounds
+pub returns-in-Err-clause-booked : goal.returns-in-Err-clause-booked
+returns-in-Err-clause-booked g c = (read-failed c.args.input c.read_on.new.buf _ c.stopped-in-Err.ensures).1

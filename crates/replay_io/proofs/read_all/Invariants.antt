@@ -1,12 +1,10 @@
-use mathlib.Core.Path.{◌≡◌}
-use Prim.Native.Nat.{◌≤◌}
-use lib.ListN.{length}
+use Rattle.std.proofs.Common.{◌≡◌, ◌≤◌, length}
 use Rattle.stream.specs.Lines.{line_most}
 use Rattle.replay_io.specs.Replays.{Reading}
 use Rattle.replay_io.proofs.read_all.Given as goal
 
 abbrev pub invariant-loop-turns : goal.invariant-loop-turns
-invariant-loop-turns l = Reading l.from l.to l.turns l.state l.cells l.got l.handed × (line_most ≤ length l.out) × (length l.cells ≡ length l.initial.cells) × (length l.buf ≡ length l.initial.buf) × (length l.out ≡ length l.initial.out)
+invariant-loop-turns g l = Reading l.from l.to l.turns l.state l.cells l.got l.handed × (line_most ≤ length l.out) × (length l.cells ≡ length l.initial.cells) × (length l.buf ≡ length l.initial.buf) × (length l.out ≡ length l.initial.out)
 
 abbrev pub decreases-loop-turns : goal.decreases-loop-turns
-decreases-loop-turns l = l.turns
+decreases-loop-turns g l = l.turns

@@ -1,12 +1,11 @@
-use mathlib.Core.Path.{ap}
+use Rattle.std.proofs.Common.{ap, length}
 use Rattle.stream.specs.declared.run.Fed.{Fed}
 use Rattle.stream.specs.Run.{finish_of}
-use lib.ListN.{length}
 use Rattle.ports.proofs.Laws.{text-inside, text-sent}
 use Rattle.replay_io.proofs.send_finish.Goals as goal
 
 pub hand_over-requires : goal.hand_over-requires
-hand_over-requires c = let a = c.args in text-inside (finish_of a.run a.cells.now (length a.out.now)).text a.out.now _ c.finish-fed.ensures.lines _ (ap (λ (f : Fed). f.wrote) c.finish-fed.ensures.value)
+hand_over-requires g c = let a = c.args in text-inside (finish_of a.run a.cells.now (length a.out.now)).text a.out.now _ c.finish-fed.ensures.lines _ (ap (λ (f : Fed). f.wrote) c.finish-fed.ensures.value)
 
 pub returns : goal.returns
-returns c = let a = c.args in text-sent (finish_of a.run a.cells.now (length a.out.now)).text a.out.now _ c.finish-fed.ensures.lines _ (ap (λ (f : Fed). f.wrote) c.finish-fed.ensures.value) a.output c.hand_over.result.failed _ c.hand_over.ensures
+returns g c = let a = c.args in text-sent (finish_of a.run a.cells.now (length a.out.now)).text a.out.now _ c.finish-fed.ensures.lines _ (ap (λ (f : Fed). f.wrote) c.finish-fed.ensures.value) a.output c.hand_over.result.failed _ c.hand_over.ensures

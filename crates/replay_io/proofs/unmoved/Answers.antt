@@ -1,4 +1,4 @@
-use mathlib.Core.Path.{refl}
+use Rattle.std.proofs.Common.{refl}
 use Rattle.replay_io.proofs.Laws.{unmoved}
 use Rattle.replay_io.proofs.unmoved.Goals as goal
 
