@@ -81,9 +81,9 @@ def compare(what: str, expected: dict[str, str], declared: dict[str, str]) -> in
 def main() -> int:
     header = text_of("bindings/c/ergo_voting.h")
     module = text_of("bindings/python/ergo_voting.py")
-    exported = functions(text_of("crates/exports/src/*.rt"), 'pub extern "C" fn')
+    exported = functions(text_of("crates/exports_c/src/*.rt"), 'pub extern "C" fn')
     refusals = dict(re.findall(r"pub const (\w+): u8 = (\d+);", text_of("crates/codec/src/refusal.rt")))
-    promised = re.findall(r"ensures size \{ λ r\. ⌜ length \((\w+)Bytes \w+\) ≡ (\d+) ⌝ \}", text_of("crates/wire/src/*.rt"))
+    promised = re.findall(r"ensures size \{ length \((\w+)_bytes \w+\) ≡ (\d+) \}", text_of("crates/wire/src/*.rt"))
     sizes = {f"{name.upper()}_SIZE": size for name, size in promised}
     in_source = constants(text_of("crates/support/src/window.rt"), r"^pub const (\w+): \w+ = (\d+);")
     windows = {f"WINDOW_{name}": number for name, number in in_source.items()}

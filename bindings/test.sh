@@ -8,7 +8,7 @@ library=target/staticlib/libexports.a
 manifest=bindings/rust/Cargo.toml
 streams=crates/replay_streams/data
 
-rt staticlib exports | tail -n 1
+bindings/library.sh
 cc -shared -o target/staticlib/libergo_voting.so -Wl,--whole-archive $library -Wl,--no-whole-archive
 
 python3 -B bindings/declarations.py

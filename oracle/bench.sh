@@ -3,6 +3,6 @@
 set -euo pipefail
 cd "$(dirname "$0")/.."
 rt check replay | tail -n 1
-rt staticlib exports | tail -n 1
+bindings/library.sh
 cargo build --quiet --release --offline --package bench
 exec target/release/bench

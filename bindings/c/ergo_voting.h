@@ -1,4 +1,4 @@
-/* The proved voting code, called from C. `rt staticlib exports` makes target/staticlib/libexports.a, which this header
+/* The proved voting code, called from C. `bindings/library.sh` makes target/staticlib/libexports.a, which this header
    describes; of C's library it needs memcpy and memset alone. docs/RULES.md has the rules and the refusals,
    docs/VECTORS.md, "Bytes", the bytes of tables, states and places.
 

@@ -106,7 +106,7 @@ _ROOT = Path(__file__).resolve().parents[2]
 _ENVIRONMENT = "ERGO_VOTING_LIBRARY"
 _DEFAULT = _ROOT / "target" / "staticlib" / "libergo_voting.so"
 _MAKE = (
-    "rt staticlib exports && cc -shared -o target/staticlib/libergo_voting.so"
+    "bindings/library.sh && cc -shared -o target/staticlib/libergo_voting.so"
     " -Wl,--whole-archive target/staticlib/libexports.a -Wl,--no-whole-archive"
 )
 

@@ -1,4 +1,4 @@
-//! Links target/staticlib/libexports.a of the repository: `rt staticlib exports` makes it.
+//! Links target/staticlib/libexports.a of the repository: `bindings/library.sh` makes it.
 
 use std::path::Path;
 
@@ -6,7 +6,7 @@ fn main() {
     let folder = Path::new(env!("CARGO_MANIFEST_DIR")).join("../../target/staticlib");
     let library = folder.join("libexports.a");
     if !library.exists() {
-        println!("cargo:warning=target/staticlib/libexports.a is missing: `rt staticlib exports` makes it");
+        println!("cargo:warning=target/staticlib/libexports.a is missing: `bindings/library.sh` makes it");
     }
     println!("cargo:rustc-link-search=native={}", folder.display());
     println!("cargo:rustc-link-lib=static=exports");
