@@ -9,7 +9,6 @@ ghost use Rattle.legal_votes.specs.Prints.{Prints};
 use legal::listing;
 use legal::next::NextVotes;
 use ports::Sent;
-use std::env::{Env, FillError};
 use std::io::{Eprint, Write};
 
 const STANDARD_OUTPUT: u32 = 1;
@@ -63,14 +62,8 @@ fn print_in<W: Write>(rt: &impl Eprint, sink: &mut W, out: &mut [u8; MOST]) -> S
     print_all(rt, sink, STANDARD_OUTPUT, out)
 }
 
-// Whether there is a word, of any length, at a place behind the program's name.
-fn has_word(rt: &impl Env, place: usize) -> bool {
-    let mut start = [0u8; 1];
-    !matches!(rt.arg(place, &mut start), Err(FillError::NotPresent))
-}
-
 fn main(rt: HostRuntime) {
-    if has_word(&rt, 1) {
+    if ports::has_argument(&rt, 1) {
         tell(&rt);
         return;
     }

@@ -2,11 +2,12 @@
 // descriptor. Only these calls make such a value.
 #![tactic(auto)]
 
-ghost use Rattle.std.specs.Prelude.{◌≡◌, ◌+◌, ◌%◌, ◌^◌, ◌<◌, ◌≤◌, false, length, take, IfOk, OnOk, OnErr};
+ghost use Rattle.std.specs.Prelude.{◌≡◌, ◌+◌, ◌%◌, ◌^◌, ◌<◌, ◌≤◌, false, length, take, IfSome, IfOk, OnOk, OnErr};
 ghost use Rattle.std.specs.Io.{ReadsAtMost};
 ghost use Rattle.std.specs.Io.KnownBytes.{Keeps, Appends, Consumes, IsAtEnd};
 ghost use Rattle.ports.specs.Ports.{unread, unwritten, read_by, stopped_by, came, wrote, handed_by, sent};
 
+use std::env::{Env, FillError};
 use std::fmt::InlineText;
 use std::io;
 use std::io::{Eprint, ErrorKind, Read, Write};
@@ -181,4 +182,37 @@ fn read_on<R: Read>(source: &mut R, buf: &mut [u8]) -> io::Result<usize>
         }
     }
     Err(io::Error::from(ErrorKind::Interrupted))
+}
+
+// Reads until the buffer is full, the input ends or a read fails; how many bytes stand at its start.
+pub fn read_full<R: Read>(source: &mut R, buf: &mut [u8]) -> usize
+    ensures within { result ≤ length buf.new }
+    ensures bytes { Consumes (R.remaining source.old) (R.remaining source.new) (take result buf.new) }
+{
+    let mut at = 0;
+    while at < buf.len() {
+        match source.read(&mut buf[at..]) {
+            Ok(0) => break,
+            Ok(n) => at += n,
+            Err(_) => break,
+        }
+    }
+    at
+}
+
+// The program's argument at a place, put at a buffer's start: how many bytes it has, 0 where they are more than the buffer's; none behind the last.
+pub fn argument(rt: &impl Env, place: usize, buf: &mut [u8]) -> Option<usize>
+    ensures { IfSome result (λ n. n ≤ length buf.new) }
+{
+    match rt.arg(place, buf) {
+        Ok(n) => Some(n),
+        Err(FillError::TooLong) => Some(0),
+        Err(FillError::NotPresent) => None,
+    }
+}
+
+// Whether there is an argument, of any length, at a place.
+pub fn has_argument(rt: &impl Env, place: usize) -> bool {
+    let mut start = [0u8; 1];
+    argument(rt, place, &mut start).is_some()
 }

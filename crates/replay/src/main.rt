@@ -2,7 +2,6 @@
 // library `replay_io`.
 #![tactic(auto)]
 
-use std::env::{Env, FillError};
 use std::fs::File;
 use std::io::{Eprint, ErrorKind, Print, Read};
 use std::os::fd::AsRawFd;
@@ -63,16 +62,10 @@ fn run_word(rt: &HostRuntime, word: &str) {
     run_file(rt, word);
 }
 
-// Whether there is a word, of any length, at a place behind the program's name.
-fn has_word(rt: &impl Env, place: usize) -> bool {
-    let mut start = [0u8; 1];
-    !matches!(rt.arg(place, &mut start), Err(FillError::NotPresent))
-}
-
 // The word at a place; none where it is too long. A file's name is text in UTF-8.
 fn run_place(rt: &HostRuntime, place: usize) {
     let mut word = [0u8; WORD_MOST];
-    let n = rt.arg(place, &mut word).unwrap_or(0);
+    let n = ports::argument(rt, place, &mut word).unwrap_or(0);
     match str::from_utf8(&word[..n]) {
         Ok(text) => run_word(rt, text),
         Err(_) => tell_unopened(rt, "a name", io::Error::from(ErrorKind::InvalidFilename)),
@@ -80,11 +73,11 @@ fn run_place(rt: &HostRuntime, place: usize) {
 }
 
 fn main(rt: HostRuntime) {
-    if !has_word(&rt, 1) {
+    if !ports::has_argument(&rt, 1) {
         run(&rt, &mut rt.stdin(), STANDARD_INPUT);
         return;
     }
-    if has_word(&rt, 2) {
+    if ports::has_argument(&rt, 2) {
         tell(&rt);
         return;
     }

@@ -3,12 +3,9 @@
 // how many of them differ. docs/VECTORS.md, "Streams".
 #![tactic(auto)]
 
-ghost use Rattle.std.specs.Prelude.{◌≤◌, length};
-
-use std::env::{Env, FillError};
 use std::fmt::InlineText;
 use std::fs::File;
-use std::io::{Error, ErrorKind, Print, Read, Write};
+use std::io::{Error, ErrorKind, Print, Write};
 use std::os::fd::AsRawFd;
 use std::{io, str};
 
@@ -80,21 +77,6 @@ fn open_path(rt: &HostRuntime, path: &str) -> io::Result<File> {
     opened
 }
 
-// Reads until the buffer is full, the input ends or a read fails; how many bytes stand at its start.
-fn read_full<R: Read>(source: &mut R, buf: &mut [u8]) -> usize
-    ensures { result ≤ length buf.new }
-{
-    let mut at = 0;
-    while at < buf.len() {
-        match source.read(&mut buf[at..]) {
-            Ok(0) => break,
-            Ok(n) => at += n,
-            Err(_) => break,
-        }
-    }
-    at
-}
-
 fn run(rt: &HostRuntime, from: io::Result<File>, piece: usize, room: usize, lines: &[u8]) -> bool {
     match from {
         Ok(mut file) => {
@@ -140,7 +122,7 @@ fn run_pair(rt: &HostRuntime, name: &str) -> bool {
     match open(rt, name, ".lines") {
         Ok(mut file) => {
             let mut lines = [0u8; 0x1_0001];
-            let n = read_full(&mut file, &mut lines);
+            let n = ports::read_full(&mut file, &mut lines);
             run_lines(rt, name, &lines, n)
         }
         Err(_) => unopened(rt),
@@ -175,21 +157,12 @@ fn one_if(b: bool) -> u64 {
     if b { 1 } else { 0 }
 }
 
-// The argument at a place, put into a buffer: how many bytes it has, 0 where it is too long; none behind the last.
-fn argument(rt: &impl Env, place: usize, name: &mut [u8]) -> Option<usize> {
-    match rt.arg(place, name) {
-        Ok(n) => Some(n),
-        Err(FillError::TooLong) => Some(0),
-        Err(FillError::NotPresent) => None,
-    }
-}
-
 fn main(rt: HostRuntime) {
     let mut pairs: u64 = 0;
     let mut differ: u64 = 0;
     for place in 1..usize::MAX {
         let mut name = [0u8; NAME_MOST];
-        match argument(&rt, place, &mut name) {
+        match ports::argument(&rt, place, &mut name) {
             Some(n) => {
                 let same = run_name(&rt, part(&name, n));
                 pairs = pairs.wrapping_add(1);

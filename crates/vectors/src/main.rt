@@ -8,11 +8,8 @@ mod row;
 mod run;
 mod text;
 
-ghost use Rattle.std.specs.Prelude.{◌≤◌, length};
-
-use std::env::{Env, FillError};
 use std::fs::File;
-use std::io::{Error, ErrorKind, Print, Read};
+use std::io::{Error, ErrorKind, Print};
 use std::str;
 
 // A file has at most so many bytes.
@@ -119,23 +116,8 @@ fn tell_unopened(rt: &HostRuntime, path: &str, error: Error) {
     let _ = rt.print("not opened\n");
 }
 
-// Reads until the buffer is full, the input ends or a read fails; how many bytes stand at its start.
-fn read_full<R: Read>(source: &mut R, buf: &mut [u8]) -> usize
-    ensures { result ≤ length buf.new }
-{
-    let mut at = 0;
-    while at < buf.len() {
-        match source.read(&mut buf[at..]) {
-            Ok(0) => break,
-            Ok(n) => at += n,
-            Err(_) => break,
-        }
-    }
-    at
-}
-
-fn read_file<R: Read>(file: &mut R, lines: &mut [u8; 0x20_0001]) -> usize {
-    read_full(file, lines)
+fn read_file(file: &mut File, lines: &mut [u8; 0x20_0001]) -> usize {
+    ports::read_full(file, lines)
 }
 
 fn run_open(rt: &HostRuntime, file: &mut File) {
@@ -144,19 +126,10 @@ fn run_open(rt: &HostRuntime, file: &mut File) {
     run_text(rt, &lines, n);
 }
 
-// The argument at a place, put into a buffer: how many bytes it has, 0 where it is too long; none behind the last.
-fn argument(rt: &impl Env, place: usize, name: &mut [u8]) -> Option<usize> {
-    match rt.arg(place, name) {
-        Ok(n) => Some(n),
-        Err(FillError::TooLong) => Some(0),
-        Err(FillError::NotPresent) => None,
-    }
-}
-
 fn main(rt: HostRuntime) {
     for place in 1..usize::MAX {
         let mut name = [0u8; NAME_MOST];
-        match argument(&rt, place, &mut name) {
+        match ports::argument(&rt, place, &mut name) {
             Some(n) => run_file(&rt, text::part(&name, 0, n)),
             None => break,
         }

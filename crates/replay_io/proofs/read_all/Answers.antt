@@ -50,13 +50,14 @@ loop-turns-preserved g c =
     let r = m.result in
     let f = c.feed_piece-passed in
     let p = f.result in
-    let i = l.invariant in
-    (reading-on a.from a.to l.turns l.state l.cells l.got l.handed i.0 r.failed r.input r.count m.new.buf m.ensures.booked c.if-came.false c.if-n-eq0.false p.at p.run
-    f.new.cells p.failed p.output f.ensures.0 c.if-passed.false (f.ensures.1 c.if-passed.false) c.if-state.false c.loop-turns-test.true m.ensures.within,
-    still-above _ _ _ f.auto.out i.1,
-    f.auto.cells ∙ i.2,
-    m.auto.buf ∙ i.3,
-    f.auto.out ∙ i.4)
+    let i = l.invariant in (
+      reading-on a.from a.to l.turns l.state l.cells l.got l.handed i.0 r.failed r.input r.count m.new.buf m.ensures.booked c.if-came.false c.if-n-eq0.false p.at p.run
+          f.new.cells p.failed p.output f.ensures.0 c.if-passed.false (f.ensures.1 c.if-passed.false) c.if-state.false c.loop-turns-test.true m.ensures.within,
+      still-above _ _ _ f.auto.out i.1,
+      f.auto.cells ∙ i.2,
+      m.auto.buf ∙ i.3,
+      f.auto.out ∙ i.4,
+    )
 
 pub returns : goal.returns
 returns g c =
