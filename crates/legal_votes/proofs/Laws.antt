@@ -1,11 +1,6 @@
 -- The listing, handed over piece by piece.
 -- Assumes nothing.
-use mathlib.Core.Path.{◌≡◌, sym, ap, ◌∙◌}
-use mathlib.Core.Bool.{Bool, true, false, true≢false}
-use mathlib.Core.List.{List, [], ◌++◌, append_assoc, append-nil}
-use Prim.Native.Nat.{ℕ, ◌-◌, ◌≤◌, ◌<◌}
-use native.Mathlib.Omega.{arith}
-use lib.ListN.{length, take}
+use Rattle.std.proofs.Common.{◌≡◌, sym, ap, ◌∙◌, Bool, true, false, true≢false, List, [], ◌++◌, append_assoc, append-nil, ℕ, ◌-◌, ◌≤◌, ◌<◌, arith, length, take}
 use Rattle.codec.specs.Output.{written}
 use Rattle.ports.specs.declared.Output.{Output}
 use Rattle.ports.specs.Ports.{unwritten, wrote, sent, wrote_on, wrote_none}

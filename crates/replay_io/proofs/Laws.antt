@@ -1,13 +1,7 @@
 -- The replay between two descriptors, by the ways through its code: every line is handed over.
 -- Assumes nothing.
-use mathlib.Core.Path.{◌≡◌, refl, sym, ap, subst, ◌∙◌}
-use mathlib.Core.Bool.{Bool, true, false, cond, ◌||◌, true≢false}
-use mathlib.Core.List.{List, [], ◌++◌, append_assoc, append-nil}
-use Prim.Native.Nat.{ℕ, zero, suc, ◌+◌, ◌-◌, ◌≤◌, ◌<◌, min}
-use native.Mathlib.Omega.{arith}
+use Rattle.std.proofs.Common.{◌≡◌, refl, sym, ap, subst, ◌∙◌, Bool, true, false, cond, ◌||◌, true≢false, List, [], ◌++◌, append_assoc, append-nil, ℕ, zero, suc, ◌+◌, ◌-◌, ◌≤◌, ◌<◌, min, arith, ltb, eqb, length, take, drop, length-append, length-drop, drop_of_length-le}
 use borrow.Author.Tests.{ltb-false, ne_eqb}
-use lib.Dec.{ltb, eqb}
-use lib.ListN.{length, take, drop, length-append, length-drop, drop_of_length-le}
 use lib.Seq.{take_all, drop-drop, length-take-le}
 use Rattle.codec.specs.Refusal.{output_short, record_malformed}
 use Rattle.codec.specs.declared.output.Wrote.{Wrote}
@@ -376,6 +370,6 @@ module _ (piece room : ℕ) (b : Bool) (is_b : b ≡ (eqb piece 0 || ltb room li
   pub parts-long : b ≡ false → (m n : ℕ) → m ≡ min piece most → n ≡ min room most → (m ≤ most) × (n ≤ most) × (line_most ≤ n)
   parts-long e m n p q = let l = room-long e in (omega (arith, p), omega (arith, q), omega (arith, q, l))
 
-pub answered : (from to piece room : ℕ) (b : Bool) → b ≡ (eqb piece 0 || ltb room line_most) → (v : Bool) → b ≡ v → (d : Done) → Replays from to d × (d.refusal ≡ cond v output_short 0)
-    → Replays from to d × (d.refusal ≡ cond (eqb piece 0 || ltb room line_most) output_short 0)
-answered from to piece room b is_b v e d h = (h.0, h.1 ∙ ap (λ (x : Bool). cond x output_short 0) (sym e ∙ is_b))
+pub answered : (from to piece place : ℕ) (b : Bool) → b ≡ (eqb piece 0 || ltb place line_most) → (v : Bool) → b ≡ v → (d : Done) → Replays from to d × (d.refusal ≡ cond v output_short 0)
+    → Replays from to d × (d.refusal ≡ cond (eqb piece 0 || ltb place line_most) output_short 0)
+answered from to piece place b is_b v e d h = (h.0, h.1 ∙ ap (λ (x : Bool). cond x output_short 0) (sym e ∙ is_b))

@@ -1,5 +1,4 @@
-use Prim.Native.Nat.{◌-◌}
-use native.Mathlib.Omega.{arith}
+use Rattle.std.proofs.Common.{arith}
 use Rattle.vectors.proofs.run_lines.Goals as goal
 
 pub loop-at-smaller : goal.loop-at-smaller

@@ -1,5 +1,4 @@
-use Prim.Native.Nat.{◌-◌}
-use lib.ListN.{length}
+use Rattle.std.proofs.Common.{◌-◌, length}
 use Rattle.vectors.proofs.run_lines.Given as goal
 
 abbrev pub invariant-loop-at : goal.invariant-loop-at

@@ -1,5 +1,4 @@
-use Prim.Native.Nat.{◌-◌}
-use native.Mathlib.Omega.{arith}
+use Rattle.std.proofs.Common.{arith}
 use Rattle.vectors.proofs.row.read.Goals as goal
 
 pub loop-from-smaller : goal.loop-from-smaller

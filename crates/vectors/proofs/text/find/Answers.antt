@@ -1,5 +1,4 @@
-use native.Mathlib.Omega.{arith}
-use Prim.Native.Nat.{◌-◌}
+use Rattle.std.proofs.Common.{arith}
 use Rattle.vectors.proofs.text.find.Goals as goal
 
 pub returns-then-s-i : goal.returns-then-s-i

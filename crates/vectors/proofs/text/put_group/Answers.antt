@@ -1,5 +1,4 @@
-use native.Mathlib.Omega.{arith}
-use Prim.Native.Nat.{◌-◌}
+use Rattle.std.proofs.Common.{arith}
 use Rattle.vectors.proofs.text.put_group.Goals as goal
 
 pub loop-from-smaller : goal.loop-from-smaller

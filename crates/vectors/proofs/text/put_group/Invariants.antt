@@ -1,5 +1,4 @@
-use Prim.Native.Nat.{◌-◌, ◌+◌}
-use lib.ListN.{length}
+use Rattle.std.proofs.Common.{◌-◌, ◌+◌, length}
 use Rattle.vectors.proofs.text.put_group.Given as goal
 
 abbrev pub invariant-loop-from : goal.invariant-loop-from
