@@ -48,7 +48,7 @@ fn replay_port(records: &[Vec<u8>]) {
 fn end_to_end(stream: &Timed, folder: &Path) -> io::Result<()> {
     let path = folder.join(stream.name).with_extension("records");
     fs::write(&path, stream.records.concat())?;
-    let programs = [("target/bin/replay", vec![]), ("sha256sum", vec![&path])];
+    let programs = [("crates/replay/out/replay", vec![]), ("sha256sum", vec![&path])];
     let [replay, sha] = programs.map(|(program, arguments)| 1e3 * best(|| run(program, &arguments, &path)));
     println!("{}: replay {replay:.1} ms, sha256sum {sha:.1} ms, ratio {:.1}", stream.name, sha / replay);
     Ok(())
