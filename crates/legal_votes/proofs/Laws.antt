@@ -1,10 +1,10 @@
 -- The listing, handed over piece by piece.
 -- Assumes nothing.
-use Rattle.std.proofs.Common.{◌≡◌, sym, ap, ◌∙◌, Bool, true, false, true≢false, List, [], ◌++◌, append_assoc, append-nil, ℕ, ◌-◌, ◌≤◌, ◌<◌, arith, length, take}
+use Rattle.std.proofs.Common.{◌≡◌, sym, ap, ◌∙◌, Bool, true, false, true≢false, List, [], ◌++◌, append_assoc, append-nil, ℕ, ◌-◌, ◌≤◌, ◌<◌, arith, length, take, subst}
 use Rattle.codec.specs.Output.{written}
 use Rattle.ports.specs.declared.Output.{Output}
 use Rattle.ports.specs.Ports.{unwritten, wrote, sent, wrote_on, wrote_none}
-use Rattle.ports.proofs.Laws.{text-sent}
+use Rattle.ports.proofs.Laws.{text-fits, text-sent}
 use Rattle.legal.specs.declared.next.NextVotes.{NextVotes}
 use Rattle.legal.specs.declared.next.NextVotes.TheVariants.{Votes, Nothing}
 use Rattle.legal.specs.declared.listing.Filled.{Filled}
@@ -13,11 +13,12 @@ use Rattle.legal.proofs.Laws.Listing.{one_piece, begins}
 use Rattle.legal_votes.specs.Prints.{Prints, Printing}
 
 -- nothing was handed over
-pub printing-starts : (to : ℕ) (at : NextVotes) (o : Output) → at ≡ Votes 0 0 0 → o ≡ unwritten to → Printing to at o
-printing-starts to at o p q = record {
+pub printing-starts : (T : List ℕ → Type 0) (to : ℕ) (at : NextVotes) (o : Output) → at ≡ Votes 0 0 0 → o ≡ unwritten to → T [] → Printing T to at o
+printing-starts T to at o p q t = record {
   text = [];
   is-output = q ∙ sym (wrote_none to);
   goes_on = ap (λ (v : NextVotes). lines_of (rest_of v)) p ∙ begins;
+  took = t;
 }
 
 -- a piece that was filled in
@@ -32,7 +33,8 @@ module _ (at : NextVotes) (out : List ℕ) (f : Filled) (is-filled : f ≡ fill_
   wrote-is = ap (λ (x : Filled). x.wrote) is-filled
 
   -- and handed over, behind what was
-  module _ (to : ℕ) (o : Output) (g : Printing to at o) (failed : Bool) (o' : Output) (s : o' ≡ sent failed (wrote o (take (f.wrote - 0) out'))) where
+  module _ (T : List ℕ → Type 0) (to : ℕ) (o : Output) (g : Printing T to at o) (failed : Bool) (o' : Output) (s : o' ≡ sent failed (wrote o (take (f.wrote - 0) out')))
+      (A T' : List ℕ → Type 0) (told : failed ≡ false → A (take (f.wrote - 0) out')) (join : (x y : List ℕ) → T x → A y → T' (x ++ y)) where
     handed : o' ≡ sent failed (wrote (unwritten to) (g.text ++ text_of at (length out)))
     handed =
         text-sent (text_of at (length out)) out out' lines f.wrote wrote-is o failed o' s
@@ -61,6 +63,13 @@ module _ (at : NextVotes) (out : List ℕ) (f : Filled) (is-filled : f ≡ fill_
       handed-whole : o' ≡ wrote (unwritten to) (g.text ++ text_of at (length out))
       handed-whole = handed ∙ ap (λ (b : Bool). sent b (wrote (unwritten to) (g.text ++ text_of at (length out)))) e
 
+      joined : T' (g.text ++ text_of at (length out))
+      joined = join g.text (text_of at (length out)) g.took (subst A (text-fits (text_of at (length out)) out out' lines f.wrote wrote-is) (told e))
+
+      pub printed-all : f.next ≡ Nothing → T' listing
+      unfolding rest_of lines_of
+      printed-all n = subst T' (sym (append-nil (g.text ++ text_of at (length out))) ∙ ap (λ (v : NextVotes). (g.text ++ text_of at (length out)) ++ lines_of (rest_of v)) (sym n) ∙ behind) joined
+
       pub prints-all : f.next ≡ Nothing → Prints to (record { output = o'; failed = false })
       unfolding rest_of lines_of
       prints-all n =
@@ -76,11 +85,12 @@ module _ (at : NextVotes) (out : List ℕ) (f : Filled) (is-filled : f ≡ fill_
             begun = sym all ∙ sym (append-nil (g.text ++ text_of at (length out)));
           }
 
-      pub printing-on : (at' : NextVotes) → f.next ≡ at' → Printing to at' o'
+      pub printing-on : (at' : NextVotes) → f.next ≡ at' → Printing T' to at' o'
       printing-on at' q = record {
         text = g.text ++ text_of at (length out);
         is-output = handed-whole;
         goes_on = ap (λ (v : NextVotes). (g.text ++ text_of at (length out)) ++ lines_of (rest_of v)) (sym q) ∙ behind;
+        took = joined;
       }
 
   -- the next piece leaves fewer numbers

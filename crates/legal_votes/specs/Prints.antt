@@ -16,8 +16,9 @@ pub record Prints (to : ℕ) (r : Sent) : Type 0 where
   pub whole : r.failed ≡ false → text ≡ listing
   pub begun : listing ≡ text ++ rest
 
--- on the way: the text that was handed over, and the lines from the position on, are the listing
-pub record Printing (to : ℕ) (at : NextVotes) (output : Output) : Type 0 where
+-- on the way: the text that was handed over, and the lines from the position on, are the listing; and what is told of the text
+pub record Printing (taken : List ℕ → Type 0) (to : ℕ) (at : NextVotes) (output : Output) : Type 0 where
   pub text : List ℕ
   pub is-output : output ≡ wrote (unwritten to) text
   pub goes_on : text ++ lines_of (rest_of at) ≡ listing
+  pub took : taken text

@@ -2,8 +2,9 @@
 // `legal` says what stands in a piece, and library `ports` what was handed over.
 #![tactic(auto)]
 
-ghost use Rattle.std.specs.Prelude.{◌≤◌, length};
-ghost use Rattle.legal.specs.Listing.{line_most};
+ghost use Rattle.std.specs.Prelude.{◌≡◌, ◌≤◌, false, length};
+ghost use Rattle.std.specs.Io.KnownBytes.{Appends};
+ghost use Rattle.legal.specs.Listing.{line_most, listing};
 ghost use Rattle.legal_votes.specs.Prints.{Prints};
 
 use legal::listing;
@@ -26,7 +27,8 @@ fn tell(rt: &impl Eprint) {
 // Piece after piece, until the end or a write that failed.
 fn print_all<W: Write>(rt: &impl Eprint, sink: &mut W, to: u32, out: &mut [u8]) -> Sent
     requires { line_most ≤ length out.old }
-    ensures { Prints to result }
+    ensures prints { Prints to result }
+    ensures printed { result.failed ≡ false → Appends (W.contents sink.old) (W.contents sink.new) listing }
 {
     let mut at = listing::begin();
     let mut handed = ports::no_output(to);
@@ -57,7 +59,8 @@ fn print_all<W: Write>(rt: &impl Eprint, sink: &mut W, to: u32, out: &mut [u8]) 
 }
 
 fn print_in<W: Write>(rt: &impl Eprint, sink: &mut W, out: &mut [u8; MOST]) -> Sent
-    ensures { Prints 1 result }
+    ensures prints { Prints 1 result }
+    ensures printed { result.failed ≡ false → Appends (W.contents sink.old) (W.contents sink.new) listing }
 {
     print_all(rt, sink, STANDARD_OUTPUT, out)
 }

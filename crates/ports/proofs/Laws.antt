@@ -40,6 +40,9 @@ module _ (text out out' : List ℕ) (q : out' ≡ text ++ drop (length text) out
   pub text-inside : (n : ℕ) → n ≡ length text → n ≤ length out'
   text-inside n e = let l = length-append text (drop (length text) out) in omega (arith, e, l, ap length q)
 
+  pub text-fits : (n : ℕ) → n ≡ length text → take (n - 0) out' ≡ text
+  text-fits n e = let z : n - 0 ≡ length text = omega (arith, e) in ap (λ (k : ℕ). take k out') z ∙ text-front
+
   pub text-sent : (n : ℕ) → n ≡ length text → (o : Output) (b : Bool) (o' : Output) → o' ≡ sent b (wrote o (take (n - 0) out')) → o' ≡ sent b (wrote o text)
   text-sent n e o b o' s =
       let z : n - 0 ≡ length text = omega (arith, e) in

@@ -2,7 +2,7 @@
 // descriptor. Only these calls make such a value.
 #![tactic(auto)]
 
-ghost use Rattle.std.specs.Prelude.{◌≡◌, ◌+◌, ◌%◌, ◌^◌, ◌<◌, ◌≤◌, false, length, take, IfSome, IfOk, OnOk, OnErr};
+ghost use Rattle.std.specs.Prelude.{◌≡◌, ◌+◌, ◌%◌, ◌^◌, ◌<◌, ◌≤◌, false, true, length, take, IfSome, IfOk, OnOk, OnErr};
 ghost use Rattle.std.specs.Io.{ReadsAtMost};
 ghost use Rattle.std.specs.Io.KnownBytes.{Keeps, Appends, Consumes, IsAtEnd};
 ghost use Rattle.ports.specs.Ports.{unread, unwritten, read_by, stopped_by, came, wrote, handed_by, sent};
@@ -74,6 +74,7 @@ pub fn receive<R: Read>(rt: &impl Eprint, source: &mut R, input: Input, buf: &mu
     ensures within { result.count ≤ length buf.new }
     ensures booked { result.input ≡ came result.failed result.count input (take result.count buf.new) }
     ensures bytes { Consumes (R.remaining source.old) (R.remaining source.new) (take result.count buf.new) }
+    ensures none { result.failed ≡ true → result.count ≡ 0 }
     ensures end { result.failed ≡ false → result.count ≡ 0 → 0 < length buf.old → IsAtEnd (R.remaining source.new) }
 {
     match read_on(source, buf) {

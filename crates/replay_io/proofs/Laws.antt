@@ -1,8 +1,9 @@
 -- The replay between two descriptors, by the ways through its code: every line is handed over.
 -- Assumes nothing.
-use Rattle.std.proofs.Common.{◌≡◌, refl, sym, ap, subst, ◌∙◌, Bool, true, false, cond, ◌||◌, true≢false, List, [], ◌++◌, append_assoc, append-nil, ℕ, zero, suc, ◌+◌, ◌-◌, ◌≤◌, ◌<◌, min, arith, ltb, eqb, length, take, drop, length-append, length-drop, drop_of_length-le}
+use Rattle.std.proofs.Common.{◌≡◌, refl, sym, ap, subst, ◌∙◌, Bool, true, false, cond, ◌||◌, true≢false, List, [], ◌++◌, append_assoc, append-nil, ℕ, zero, suc, ◌+◌, ◌-◌, ◌≤◌, ◌<◌, min, arith, ltb, eqb, length, take, drop, length-append, length-drop, drop_of_length-le, Option, None, Some, IfSome}
 use borrow.Author.Tests.{ltb-false, ne_eqb}
 use lib.Seq.{take_all, drop-drop, length-take-le}
+use Rattle.std.specs.Io.KnownBytes.{Appends, Consumes, IsAtEnd}
 use Rattle.codec.specs.Refusal.{output_short, record_malformed}
 use Rattle.codec.specs.declared.output.Wrote.{Wrote}
 use Rattle.codec.specs.declared.output.Wrote.TheVariants.{Bytes, Refused}
@@ -10,7 +11,7 @@ use Rattle.codec.specs.Output.{outcome, writes, written}
 use Rattle.voting.specs.Settings.{mainnet}
 use Rattle.ports.specs.declared.Input.{Input}
 use Rattle.ports.specs.declared.Output.{Output}
-use Rattle.ports.proofs.Laws.{text-inside, text-sent}
+use Rattle.ports.proofs.Laws.{text-inside, text-fits, text-sent}
 use Rattle.ports.specs.Ports.{unread, unwritten, read, ended, broken, came, wrote, sent, read-on, wrote_on, read_none, wrote_none}
 use Rattle.stream.specs.declared.run.Run.{Run}
 use Rattle.stream.specs.declared.run.Fed.{Fed}
@@ -21,7 +22,7 @@ use Rattle.stream.proofs.Laws.Added.{never, written_is, front-is}
 use Rattle.stream.proofs.Laws.Run.{ahead-over}
 use Rattle.stream.proofs.Laws.Feed.{end_line_lem, fail-line, finishes}
 use Rattle.replay_io.specs.declared.Done.{Done}
-use Rattle.replay_io.specs.Replays.{Replays, most, Feeding, Reading}
+use Rattle.replay_io.specs.Replays.{Moves, IsEmpty, most, Feeding, Reading}
 
 -- ---- a text that was written into the buffer and is handed over
 
@@ -43,6 +44,9 @@ module _ (out : List ℕ) (h : line_most ≤ length out) (w : Wrote) (out' : Lis
         let z : n - 0 ≡ n = omega arith in
         e ∙ ap (λ (k : ℕ). sent b (wrote o (take k out'))) z ∙ ap (λ (x : List ℕ). sent b (wrote o x)) (front-is head_line out room w out' q n r)
 
+    pub head-is : take (n - 0) out' ≡ head_line
+    head-is = let z : n - 0 ≡ n = omega arith in ap (λ (k : ℕ). take k out') z ∙ front-is head_line out room w out' q n r
+
 -- a bound by a length that stays
 pub still-above : (x m n : ℕ) → n ≡ m → x ≤ m → x ≤ n
 still-above x m n e h = omega (arith, e, h)
@@ -53,11 +57,11 @@ still-above x m n e h = omega (arith, e, h)
 abbrev pub rest : List ℕ → ℕ → List ℕ
 rest piece at = take (length piece - at) (drop at piece)
 
-module _ (run : Run) (cells piece : List ℕ) (output : Output) where
-  pub feeding-none : Ready run cells → Feeding run cells piece output 0 run cells false output
-  feeding-none y = record { text = []; is = λ to before e. e ∙ ap (wrote (unwritten to)) (sym (append-nil before)); goes_on = λ more. refl; ready = y }
+module _ (T : List ℕ → Type 0) (run : Run) (cells piece : List ℕ) (output : Output) where
+  pub feeding-none : Ready run cells → T [] → Feeding T run cells piece output 0 run cells false output
+  feeding-none y t = record { text = []; is = λ to before e. e ∙ ap (wrote (unwritten to)) (sym (append-nil before)); goes_on = λ more. refl; ready = y; took = λ f. t }
 
-  module _ (at : ℕ) (r : Run) (cells₁ : List ℕ) (o : Output) (g : Feeding run cells piece output at r cells₁ false o) (out : List ℕ) (place : line_most ≤ length out)
+  module _ (at : ℕ) (r : Run) (cells₁ : List ℕ) (o : Output) (g : Feeding T run cells piece output at r cells₁ false o) (out : List ℕ) (place : line_most ≤ length out)
       (fed : Fed) (is-fed : fed ≡ fed_of (feed_of r cells₁ (rest piece at) (length out)))
       (x : Ready r cells₁ → line_most ≤ length out → Feeds r cells₁ (rest piece at) (length out) (feed_of r cells₁ (rest piece at) (length out))) where
     abbrev a : After
@@ -82,8 +86,8 @@ module _ (run : Run) (cells piece : List ℕ) (output : Output) where
       pub feeding-wrote : fed.wrote ≤ length out₂
       feeding-wrote = text-inside a.text out out₂ is-out fed.wrote (ap (λ (f : Fed). f.wrote) is-fed)
 
-      pub feeding-on : (b : Bool) (o₂ : Output) → o₂ ≡ sent b (wrote o (take (fed.wrote - 0) out₂)) → Feeding run cells piece output (at + fed.used) fed.run cells₂ b o₂
-      feeding-on b o₂ e =
+      pub feeding-on : (b : Bool) (o₂ : Output) → o₂ ≡ sent b (wrote o (take (fed.wrote - 0) out₂)) → (A T' : List ℕ → Type 0) → (b ≡ false → A (take (fed.wrote - 0) out₂)) → ((s u : List ℕ) → T s → A u → T' (s ++ u)) → Feeding T' run cells piece output (at + fed.used) fed.run cells₂ b o₂
+      feeding-on b o₂ e A T' h join =
           let t = a.text in
           let s = g.text in
           let went : o₂ ≡ sent b (wrote o t) = text-sent t out out₂ is-out fed.wrote (ap (λ (f : Fed). f.wrote) is-fed) o b o₂ e in
@@ -104,51 +108,53 @@ module _ (run : Run) (cells piece : List ℕ) (output : Output) where
                 ∙ ap (λ (k : ℕ). s ++ t ++ ahead a.run a.cells (drop (at + k) piece ++ more)) (sym used-is)
                 ∙ ap (λ (f : List ℕ → List ℕ). s ++ t ++ f (drop (at + fed.used) piece ++ more)) same;
             ready = subst (λ (f : Fed). Ready f.run cells₂) (sym is-fed) (subst (Ready a.run) (sym is-cells) p.ready);
+            took = λ f. join s t (g.took refl) (subst A (text-fits t out out₂ is-out fed.wrote (ap (λ (f : Fed). f.wrote) is-fed)) (h f));
           }
 
 -- before a call: the piece was fed up to a position, and the buffers are as long as they were
-pub record Going (run : Run) (cells₀ piece : List ℕ) (output : Output) (out₀ : List ℕ) (at : ℕ) (r : Run) (cells : List ℕ) (o : Output) (out : List ℕ) : Type 0 where
-  pub feeding : Feeding run cells₀ piece output at r cells false o
+pub record Going (T : List ℕ → Type 0) (run : Run) (cells₀ piece : List ℕ) (output : Output) (out₀ : List ℕ) (at : ℕ) (r : Run) (cells : List ℕ) (o : Output) (out : List ℕ) : Type 0 where
+  pub feeding : Feeding T run cells₀ piece output at r cells false o
   pub inside : at ≤ length piece
   pub room : line_most ≤ length out
   pub cells-long : length cells ≡ length cells₀
   pub out-long : length out ≡ length out₀
 
-module _ (run : Run) (cells₀ piece : List ℕ) (output : Output) (out₀ : List ℕ) where
-  pub going-starts : Ready run cells₀ × (line_most ≤ length out₀) → Going run cells₀ piece output out₀ 0 run cells₀ output out₀
-  going-starts h = record { feeding = feeding-none run cells₀ piece output h.0; inside = omega arith; room = h.1; cells-long = refl; out-long = refl }
+module _ (T : List ℕ → Type 0) (run : Run) (cells₀ piece : List ℕ) (output : Output) (out₀ : List ℕ) where
+  pub going-starts : Ready run cells₀ × (line_most ≤ length out₀) → T [] → Going T run cells₀ piece output out₀ 0 run cells₀ output out₀
+  going-starts h t = record { feeding = feeding-none T run cells₀ piece output h.0 t; inside = omega arith; room = h.1; cells-long = refl; out-long = refl }
 
-  module _ (at : ℕ) (r : Run) (cells : List ℕ) (o : Output) (out : List ℕ) (g : Going run cells₀ piece output out₀ at r cells o out) (fed : Fed) (cells₂ out₂ : List ℕ)
+  module _ (at : ℕ) (r : Run) (cells : List ℕ) (o : Output) (out : List ℕ) (g : Going T run cells₀ piece output out₀ at r cells o out) (fed : Fed) (cells₂ out₂ : List ℕ)
       (x : (fed ≡ fed_of (feed_of r cells (rest piece at) (length out)))
       × ((cells₂ ≡ (feed_of r cells (rest piece at) (length out)).cells)
       × ((out₂ ≡ written (feed_of r cells (rest piece at) (length out)).text out)
       × ((Ready r cells → line_most ≤ length out → Feeds r cells (rest piece at) (length out) (feed_of r cells (rest piece at) (length out)))
       × ((fed.used ≤ length (rest piece at)) × (fed.wrote ≤ length out)))))) where
     pub going-wrote : fed.wrote ≤ length out₂
-    going-wrote = feeding-wrote run cells₀ piece output at r cells o g.feeding out g.room fed x.0 x.1.1.1.0 cells₂ x.1.0 out₂ x.1.1.0
+    going-wrote = feeding-wrote T run cells₀ piece output at r cells o g.feeding out g.room fed x.0 x.1.1.1.0 cells₂ x.1.0 out₂ x.1.1.0
 
     pub going-moves : at < length piece → 0 < fed.used
-    going-moves h = feeding-moves run cells₀ piece output at r cells o g.feeding out g.room fed x.0 x.1.1.1.0 h
+    going-moves h = feeding-moves T run cells₀ piece output at r cells o g.feeding out g.room fed x.0 x.1.1.1.0 h
 
     pub going-inside : at + fed.used ≤ length piece
-    going-inside = feeding-inside run cells₀ piece output at r cells o g.feeding out g.room fed x.0 x.1.1.1.0 g.inside
+    going-inside = feeding-inside T run cells₀ piece output at r cells o g.feeding out g.room fed x.0 x.1.1.1.0 g.inside
 
-    module _ (b : Bool) (o₂ : Output) (e : o₂ ≡ sent b (wrote o (take (fed.wrote - 0) out₂))) where
-      fed-on : Feeding run cells₀ piece output (at + fed.used) fed.run cells₂ b o₂
-      fed-on = feeding-on run cells₀ piece output at r cells o g.feeding out g.room fed x.0 x.1.1.1.0 cells₂ x.1.0 out₂ x.1.1.0 b o₂ e
+    module _ (b : Bool) (o₂ : Output) (e : o₂ ≡ sent b (wrote o (take (fed.wrote - 0) out₂))) (A T' : List ℕ → Type 0) (h : b ≡ false → A (take (fed.wrote - 0) out₂))
+        (join : (s u : List ℕ) → T s → A u → T' (s ++ u)) where
+      fed-on : Feeding T' run cells₀ piece output (at + fed.used) fed.run cells₂ b o₂
+      fed-on = feeding-on T run cells₀ piece output at r cells o g.feeding out g.room fed x.0 x.1.1.1.0 cells₂ x.1.0 out₂ x.1.1.0 b o₂ e A T' h join
 
-      pub going_on : b ≡ false → length cells₂ ≡ length cells → length out₂ ≡ length out → Going run cells₀ piece output out₀ (at + fed.used) fed.run cells₂ o₂ out₂
+      pub going_on : b ≡ false → length cells₂ ≡ length cells → length out₂ ≡ length out → Going T' run cells₀ piece output out₀ (at + fed.used) fed.run cells₂ o₂ out₂
       going_on f same same_out =
           record {
-            feeding = subst (λ (y : Bool). Feeding run cells₀ piece output (at + fed.used) fed.run cells₂ y o₂) f fed-on;
+            feeding = subst (λ (y : Bool). Feeding T' run cells₀ piece output (at + fed.used) fed.run cells₂ y o₂) f fed-on;
             inside = going-inside;
             room = omega (arith, g.room, same_out);
             cells-long = same ∙ g.cells-long;
             out-long = same_out ∙ g.out-long;
           }
 
-      pub going-cut : b ≡ true → Feeding run cells₀ piece output (at + fed.used) fed.run cells₂ true o₂ × (true ≡ false → length piece ≤ at + fed.used)
-      going-cut f = (subst (λ (y : Bool). Feeding run cells₀ piece output (at + fed.used) fed.run cells₂ y o₂) f fed-on, λ u. absurd (true≢false u))
+      pub going-cut : b ≡ true → Feeding T' run cells₀ piece output (at + fed.used) fed.run cells₂ true o₂ × (true ≡ false → length piece ≤ at + fed.used)
+      going-cut f = (subst (λ (y : Bool). Feeding T' run cells₀ piece output (at + fed.used) fed.run cells₂ y o₂) f fed-on, λ u. absurd (true≢false u))
 
 -- ---- the pieces
 
@@ -156,20 +162,20 @@ module _ (run : Run) (cells₀ piece : List ℕ) (output : Output) (out₀ : Lis
 abbrev done_by : Input → Output → (at_end failed cut_off long : Bool) → Done
 done_by i o at_end failed cut_off long = record { input = i; output = o; refusal = 0; ended = at_end; read_failed = failed; write_failed = cut_off; too_long = long }
 
-answers : (from to : ℕ) (i : Input) (o : Output) (at_end failed cut_off long : Bool) → Replays from to (done_by i o at_end failed cut_off long)
-    → (d : Done) → d ≡ done_by i o at_end failed cut_off long → Replays from to d × (d.refusal ≡ 0)
-answers from to i o at_end failed cut_off long y d q = (subst (Replays from to) (sym q) y, ap (λ (x : Done). x.refusal) q)
+answers : (G T : List ℕ → Type 0) (E : Type 0) (from to : ℕ) (i : Input) (o : Output) (at_end failed cut_off long : Bool) → Moves G T E from to (done_by i o at_end failed cut_off long)
+    → (d : Done) → d ≡ done_by i o at_end failed cut_off long → Moves G T E from to d × (d.refusal ≡ 0)
+answers G T E from to i o at_end failed cut_off long y d q = (subst (Moves G T E from to) (sym q) y, ap (λ (x : Done). x.refusal) q)
 
 -- the first line was handed over
-module _ (from to : ℕ) (r : Run) (is-r : r ≡ begun mainnet_start) (b : Begins replay_prints (longest_record mainnet) r) (i : Input) (is-i : i ≡ unread from)
-    (c : Bool) (o e : Output) (is-e : e ≡ unwritten to) (is-o : o ≡ sent c (wrote e head_line)) where
+module _ (G T : List ℕ → Type 0) (E : Type 0) (from to : ℕ) (r : Run) (is-r : r ≡ begun mainnet_start) (b : Begins replay_prints (longest_record mainnet) r) (i : Input) (is-i : i ≡ unread from)
+    (c : Bool) (o e : Output) (is-e : e ≡ unwritten to) (is-o : o ≡ sent c (wrote e head_line)) (given : G []) (taken : c ≡ false → T head_line) where
   first-input : i ≡ read (unread from) []
   first-input = is-i ∙ sym (read_none from)
 
   first-output : (x : Bool) → c ≡ x → o ≡ sent x (wrote (unwritten to) head_line)
   first-output x f = is-o ∙ ap (λ (y : Output). sent c (wrote y head_line)) is-e ∙ ap (λ (y : Bool). sent y (wrote (unwritten to) head_line)) f
 
-  pub reading-starts : c ≡ false → (cells : List ℕ) → longest_record mainnet ≤ length cells → Reading from to 18446744073709551615 r cells i o
+  pub reading-starts : c ≡ false → (cells : List ℕ) → longest_record mainnet ≤ length cells → Reading G T from to 18446744073709551615 r cells i o
   reading-starts f cells h =
       record {
         bytes = [];
@@ -180,39 +186,51 @@ module _ (from to : ℕ) (r : Run) (is-r : r ≡ begun mainnet_start) (b : Begin
         ready = b.ready cells h;
         on = ap (λ (x : Run). x.over) is-r;
         counted = omega arith;
+        gave = given;
+        took = taken f;
       }
 
-  pub head-failed : c ≡ true → (d : Done) → d ≡ done_by i o false false true false → Replays from to d × (d.refusal ≡ 0)
+  pub head-failed : c ≡ true → (d : Done) → d ≡ done_by i o false false true false → Moves G T E from to d × (d.refusal ≡ 0)
   head-failed f =
-      answers from to i o false false true false
+      answers G T E from to i o false false true false
       (record {
-        bytes = [];
-        text = head_line;
-        is-input = first-input;
-        is-output = first-output true f;
-        whole = λ u v w. absurd (true≢false w);
-        begun = λ u more v. record { rest = ahead r [] more; is = b.opens [] more };
-        broke = λ u. absurd (true≢false (sym u));
-        long = λ u. absurd (true≢false (sym u));
-        refused = λ u. absurd (u refl);
+        replays = record {
+          bytes = [];
+          text = head_line;
+          is-input = first-input;
+          is-output = first-output true f;
+          whole = λ u v w. absurd (true≢false w);
+          begun = λ u more v. record { rest = ahead r [] more; is = b.opens [] more };
+          broke = λ u. absurd (true≢false (sym u));
+          long = λ u. absurd (true≢false (sym u));
+          refused = λ u. absurd (u refl);
+        };
+        gave = given;
+        took = λ u. absurd (true≢false u);
+        ends = λ u. absurd (true≢false (sym u));
       })
 
 pub unmoved : (from to : ℕ) (i : Input) → i ≡ unread from → (o : Output) → o ≡ unwritten to
-    → Replays from to (record { input = i; output = o; refusal = output_short; ended = false; read_failed = false; write_failed = false; too_long = false })
-unmoved from to i is-i o is-o =
+    → (E : Type 0) → Moves IsEmpty IsEmpty E from to (record { input = i; output = o; refusal = output_short; ended = false; read_failed = false; write_failed = false; too_long = false })
+unmoved from to i is-i o is-o E =
     record {
-      bytes = [];
-      text = [];
-      is-input = is-i ∙ sym (read_none from);
-      is-output = is-o ∙ sym (wrote_none to);
-      whole = λ u. absurd (omega (arith, u));
-      begun = λ u more v. record { rest = replay_prints more; is = refl };
-      broke = λ u. absurd (true≢false (sym u));
-      long = λ u. absurd (true≢false (sym u));
-      refused = λ u. (refl, refl);
+      replays = record {
+        bytes = [];
+        text = [];
+        is-input = is-i ∙ sym (read_none from);
+        is-output = is-o ∙ sym (wrote_none to);
+        whole = λ u. absurd (omega (arith, u));
+        begun = λ u more v. record { rest = replay_prints more; is = refl };
+        broke = λ u. absurd (true≢false (sym u));
+        long = λ u. absurd (true≢false (sym u));
+        refused = λ u. (refl, refl);
+      };
+      gave = refl;
+      took = λ u. refl;
+      ends = λ u. absurd (true≢false (sym u));
     }
 
-module _ (from to left : ℕ) (r : Run) (cells : List ℕ) (i : Input) (o : Output) (g : Reading from to left r cells i o) where
+module _ (G T : List ℕ → Type 0) (from to left : ℕ) (r : Run) (cells : List ℕ) (i : Input) (o : Output) (g : Reading G T from to left r cells i o) where
   all : replay_prints g.bytes ≡ g.text ++ ahead r cells []
   all = ap replay_prints (sym (append-nil g.bytes)) ∙ g.goes_on []
 
@@ -220,70 +238,89 @@ module _ (from to left : ℕ) (r : Run) (cells : List ℕ) (i : Input) (o : Outp
   handed-is b o' t e = e ∙ ap (λ (x : Output). sent b (wrote x t)) g.is-output ∙ ap (sent b) (wrote_on (unwritten to) g.text t)
 
   -- so many bytes were read that no turn is left
-  pub ends-long : left ≤ 0 → (d : Done) → d ≡ done_by i o false false false true → Replays from to d × (d.refusal ≡ 0)
-  ends-long h =
-      answers from to i o false false false true
+  pub ends-long : (E : Type 0) → left ≤ 0 → (d : Done) → d ≡ done_by i o false false false true → Moves G T E from to d × (d.refusal ≡ 0)
+  ends-long E h =
+      answers G T E from to i o false false false true
       (record {
-        bytes = g.bytes;
-        text = g.text;
-        is-input = g.is-input;
-        is-output = g.is-output;
-        whole = λ u v w x. absurd (true≢false x);
-        begun = λ u more v. record { rest = ahead r cells more; is = g.goes_on more };
-        broke = λ u. absurd (true≢false (sym u));
-        long = λ u. omega (arith, h, g.counted);
-        refused = λ u. absurd (u refl);
+        replays = record {
+          bytes = g.bytes;
+          text = g.text;
+          is-input = g.is-input;
+          is-output = g.is-output;
+          whole = λ u v w x. absurd (true≢false x);
+          begun = λ u more v. record { rest = ahead r cells more; is = g.goes_on more };
+          broke = λ u. absurd (true≢false (sym u));
+          long = λ u. omega (arith, h, g.counted);
+          refused = λ u. absurd (u refl);
+        };
+        gave = g.gave;
+        took = λ u. g.took;
+        ends = λ u. absurd (true≢false (sym u));
       })
 
   -- what a read did
-  module _ (failed : Bool) (i' : Input) (n : ℕ) (buf : List ℕ) (is-i : i' ≡ came failed n i (take n buf)) where
+  module _ (failed : Bool) (i' : Input) (n : ℕ) (buf : List ℕ) (is-i : i' ≡ came failed n i (take n buf))
+      (G' T' A B : List ℕ → Type 0) (E : Type 0) (got : A (take n buf)) (join : (s u : List ℕ) → G s → A u → G' (s ++ u)) (joined : (s u : List ℕ) → T s → B u → T' (s ++ u)) where
+    none-read : n ≡ 0 → G' g.bytes
+    none-read z = subst G' (ap (λ (k : ℕ). g.bytes ++ take k buf) z ∙ append-nil g.bytes) (join g.bytes (take n buf) g.gave got)
+
     -- it failed
-    pub ends-fail : failed ≡ true → (room : ℕ) → line_most ≤ room → (b : Bool) (o' : Output) → o' ≡ sent b (wrote o (fail_of r cells room).text)
-        → (d : Done) → d ≡ done_by i' o' false true b false → Replays from to d × (d.refusal ≡ 0)
+    pub ends-fail : failed ≡ true → n ≡ 0 → (room : ℕ) → line_most ≤ room → (b : Bool) (o' : Output) → o' ≡ sent b (wrote o (fail_of r cells room).text) → (b ≡ false → B (fail_of r cells room).text)
+        → (d : Done) → d ≡ done_by i' o' false true b false → Moves G' T' E from to d × (d.refusal ≡ 0)
     unfolding came
-    ends-fail f room h b o' e =
-        answers from to i' o' false true b false
+    ends-fail f z room h b o' e w =
+        answers G' T' E from to i' o' false true b false
         (record {
-          bytes = g.bytes;
-          text = g.text ++ (fail_of r cells room).text;
-          is-input = is-i ∙ ap (λ (x : Bool). came x n i (take n buf)) f ∙ ap broken g.is-input;
-          is-output = handed-is b o' (fail_of r cells room).text e;
-          whole = λ u v. absurd (true≢false v);
-          begun = λ u. absurd (true≢false u);
-          broke = λ u. record {
-            lines = g.text;
-            accepted = r.accepted;
-            refusal = cond (eqb r.filled 0) 0 record_malformed;
-            before = all ∙ ap (λ (x : List ℕ). g.text ++ x) (end_line_lem r cells room g.ready g.on);
-            is = ap (λ (x : List ℕ). g.text ++ x) (fail-line r cells room g.ready h g.on);
+          replays = record {
+            bytes = g.bytes;
+            text = g.text ++ (fail_of r cells room).text;
+            is-input = is-i ∙ ap (λ (x : Bool). came x n i (take n buf)) f ∙ ap broken g.is-input;
+            is-output = handed-is b o' (fail_of r cells room).text e;
+            whole = λ u v. absurd (true≢false v);
+            begun = λ u. absurd (true≢false u);
+            broke = λ u. record {
+              lines = g.text;
+              accepted = r.accepted;
+              refusal = cond (eqb r.filled 0) 0 record_malformed;
+              before = all ∙ ap (λ (x : List ℕ). g.text ++ x) (end_line_lem r cells room g.ready g.on);
+              is = ap (λ (x : List ℕ). g.text ++ x) (fail-line r cells room g.ready h g.on);
+            };
+            long = λ u. absurd (true≢false (sym u));
+            refused = λ u. absurd (u refl);
           };
-          long = λ u. absurd (true≢false (sym u));
-          refused = λ u. absurd (u refl);
+          gave = none-read z;
+          took = λ u. joined g.text (fail_of r cells room).text g.took (w u);
+          ends = λ u. absurd (true≢false (sym u));
         })
 
     -- it met the end of the input
-    pub ends-finish : failed ≡ false → n ≡ 0 → (room : ℕ) → line_most ≤ room → (b : Bool) (o' : Output) → o' ≡ sent b (wrote o (finish_of r cells room).text)
-        → (d : Done) → d ≡ done_by i' o' true false b false → Replays from to d × (d.refusal ≡ 0)
+    pub ends-finish : failed ≡ false → n ≡ 0 → (room : ℕ) → line_most ≤ room → (b : Bool) (o' : Output) → o' ≡ sent b (wrote o (finish_of r cells room).text) → (b ≡ false → B (finish_of r cells room).text) → E
+        → (d : Done) → d ≡ done_by i' o' true false b false → Moves G' T' E from to d × (d.refusal ≡ 0)
     unfolding came
-    ends-finish f z room h b o' e =
+    ends-finish f z room h b o' e y fin =
         let t = (finish_of r cells room).text in
         let w : g.text ++ t ≡ replay_prints g.bytes = sym (all ∙ ap (λ (x : List ℕ). g.text ++ x) (finishes r cells room g.ready h).all) in
         let v : (more : List ℕ) → more ≡ [] → g.text ++ t ≡ replay_prints (g.bytes ++ more) = λ more m. w ∙ ap replay_prints (sym (ap (λ (x : List ℕ). g.bytes ++ x) m ∙ append-nil g.bytes)) in
-        answers from to i' o' true false b false
+        answers G' T' E from to i' o' true false b false
         (record {
-          bytes = g.bytes;
-          text = g.text ++ t;
-          is-input = is-i ∙ ap (λ (x : Bool). came x n i (take n buf)) f ∙ ap (λ (k : ℕ). cond (eqb k 0) (ended i) (read i (take n buf))) z ∙ ap ended g.is-input;
-          is-output = handed-is b o' t e;
-          whole = λ a c k l more m. v more (m refl);
-          begun = λ a more m. record { rest = []; is = sym (v more (m refl)) ∙ sym (append-nil (g.text ++ t)) };
-          broke = λ a. absurd (true≢false (sym a));
-          long = λ u. absurd (true≢false (sym u));
-          refused = λ u. absurd (u refl);
+          replays = record {
+            bytes = g.bytes;
+            text = g.text ++ t;
+            is-input = is-i ∙ ap (λ (x : Bool). came x n i (take n buf)) f ∙ ap (λ (k : ℕ). cond (eqb k 0) (ended i) (read i (take n buf))) z ∙ ap ended g.is-input;
+            is-output = handed-is b o' t e;
+            whole = λ a c k l more m. v more (m refl);
+            begun = λ a more m. record { rest = []; is = sym (v more (m refl)) ∙ sym (append-nil (g.text ++ t)) };
+            broke = λ a. absurd (true≢false (sym a));
+            long = λ u. absurd (true≢false (sym u));
+            refused = λ u. absurd (u refl);
+          };
+          gave = none-read z;
+          took = λ u. joined g.text t g.took (y u);
+          ends = λ u. fin;
         })
 
     -- it brought bytes, and they were fed
-    module _ (f : failed ≡ false) (some : n ≡ 0 → ⊥) (at : ℕ) (r' : Run) (cells' : List ℕ) (b : Bool) (o' : Output) (p : Feeding r cells (take (n - 0) buf) o at r' cells' b o') where
+    module _ (f : failed ≡ false) (some : n ≡ 0 → ⊥) (at : ℕ) (r' : Run) (cells' : List ℕ) (b : Bool) (o' : Output) (p : Feeding B r cells (take (n - 0) buf) o at r' cells' b o') where
       read_is : i' ≡ read (unread from) (g.bytes ++ take n buf)
       unfolding came
       read_is =
@@ -296,8 +333,8 @@ module _ (from to left : ℕ) (r : Run) (cells : List ℕ) (i : Input) (o : Outp
       piece_is : take (n - 0) buf ≡ take n buf
       piece_is = let z : n - 0 ≡ n = omega arith in ap (λ (k : ℕ). take k buf) z
 
-      h : Feeding r cells (take n buf) o at r' cells' b o'
-      h = subst (λ (x : List ℕ). Feeding r cells x o at r' cells' b o') piece_is p
+      h : Feeding B r cells (take n buf) o at r' cells' b o'
+      h = subst (λ (x : List ℕ). Feeding B r cells x o at r' cells' b o') piece_is p
 
       goes : (more : List ℕ) → replay_prints ((g.bytes ++ take n buf) ++ more) ≡ (g.text ++ h.text) ++ ahead r' cells' (drop at (take n buf) ++ more)
       goes more =
@@ -307,29 +344,34 @@ module _ (from to left : ℕ) (r : Run) (cells : List ℕ) (i : Input) (o : Outp
           ∙ sym (append_assoc g.text h.text (ahead r' cells' (drop at (take n buf) ++ more)))
 
       -- nothing more is read: a write failed, or the run is over
-      ends-early : (v : Bool) → b ≡ v → (v ≡ false → r'.over ≡ true) → (d : Done) → d ≡ done_by i' o' false false v false → Replays from to d × (d.refusal ≡ 0)
+      ends-early : (v : Bool) → b ≡ v → (v ≡ false → r'.over ≡ true) → (d : Done) → d ≡ done_by i' o' false false v false → Moves G' T' E from to d × (d.refusal ≡ 0)
       ends-early v q over =
-          answers from to i' o' false false v false
+          answers G' T' E from to i' o' false false v false
           (record {
-            bytes = g.bytes ++ take n buf;
-            text = g.text ++ h.text;
-            is-input = read_is;
-            is-output = h.is to g.text g.is-output ∙ ap (λ (x : Bool). sent x (wrote (unwritten to) (g.text ++ h.text))) q;
-            whole = λ u x w y more m.
-                sym (goes more ∙ ap (λ (z : List ℕ). (g.text ++ h.text) ++ z) (ahead-over r' cells' (drop at (take n buf) ++ more) (over w)) ∙ append-nil (g.text ++ h.text));
-            begun = λ u more m. record { rest = ahead r' cells' (drop at (take n buf) ++ more); is = goes more };
-            broke = λ u. absurd (true≢false (sym u));
-            long = λ u. absurd (true≢false (sym u));
-            refused = λ u. absurd (u refl);
+            replays = record {
+              bytes = g.bytes ++ take n buf;
+              text = g.text ++ h.text;
+              is-input = read_is;
+              is-output = h.is to g.text g.is-output ∙ ap (λ (x : Bool). sent x (wrote (unwritten to) (g.text ++ h.text))) q;
+              whole = λ u x w y more m.
+                  sym (goes more ∙ ap (λ (z : List ℕ). (g.text ++ h.text) ++ z) (ahead-over r' cells' (drop at (take n buf) ++ more) (over w)) ∙ append-nil (g.text ++ h.text));
+              begun = λ u more m. record { rest = ahead r' cells' (drop at (take n buf) ++ more); is = goes more };
+              broke = λ u. absurd (true≢false (sym u));
+              long = λ u. absurd (true≢false (sym u));
+              refused = λ u. absurd (u refl);
+            };
+            gave = join g.bytes (take n buf) g.gave got;
+            took = λ u. joined g.text h.text g.took (h.took (q ∙ u));
+            ends = λ u. absurd (true≢false (sym u));
           })
 
-      pub ends-cut : b ≡ true → (d : Done) → d ≡ done_by i' o' false false true false → Replays from to d × (d.refusal ≡ 0)
+      pub ends-cut : b ≡ true → (d : Done) → d ≡ done_by i' o' false false true false → Moves G' T' E from to d × (d.refusal ≡ 0)
       ends-cut q = ends-early true q (λ u. absurd (true≢false u))
 
-      pub ends-over : b ≡ false → r'.over ≡ true → (d : Done) → d ≡ done_by i' o' false false false false → Replays from to d × (d.refusal ≡ 0)
+      pub ends-over : b ≡ false → r'.over ≡ true → (d : Done) → d ≡ done_by i' o' false false false false → Moves G' T' E from to d × (d.refusal ≡ 0)
       ends-over q e = ends-early false q (λ u. e)
 
-      pub reading-on : b ≡ false → length (take (n - 0) buf) ≤ at → r'.over ≡ false → 0 < left → n ≤ length buf → Reading from to (left - 1) r' cells' i' o'
+      pub reading-on : b ≡ false → length (take (n - 0) buf) ≤ at → r'.over ≡ false → 0 < left → n ≤ length buf → Reading G' T' from to (left - 1) r' cells' i' o'
       reading-on q l on turns fits =
           let e : drop at (take n buf) ≡ [] = drop_of_length-le (take n buf) {i = at} (omega (arith, l, ap length piece_is)) in
           record {
@@ -341,6 +383,8 @@ module _ (from to left : ℕ) (r : Run) (cells : List ℕ) (i : Input) (o : Outp
             ready = h.ready;
             on = on;
             counted = more-read (length-append g.bytes (take n buf)) (length-take-le n buf fits) g.counted turns;
+            gave = join g.bytes (take n buf) g.gave got;
+            took = joined g.text h.text g.took (h.took q);
           }
         where
           more-read : length (g.bytes ++ take n buf) ≡ length g.bytes + length (take n buf) → length (take n buf) ≡ n → 18446744073709551615 ≤ left + length g.bytes → 0 < left
@@ -352,6 +396,10 @@ module _ (from to left : ℕ) (r : Run) (cells : List ℕ) (i : Input) (o : Outp
               go (suc m) z = omega (arith, a, c, k, t, z)
 
 -- ---- the buffers
+
+-- a beginning that is not empty
+pub front-some : (n : ℕ) (l : List ℕ) → n ≤ length l → 0 < n → 0 < length (take (n - 0) l)
+front-some n l h some = let z : n - 0 ≤ length l = omega (arith, h) in omega (arith, length-take-le (n - 0) l z, some)
 
 pub arrays-long : (cells buf out : List ℕ) (piece room : ℕ) → length cells ≡ 35853 → length buf ≡ most → length out ≡ most → (piece ≤ most) × (room ≤ most) × (line_most ≤ room)
     → (longest_record mainnet ≤ length cells) × (piece ≤ length buf) × (room ≤ length out) × (line_most ≤ room)
@@ -367,9 +415,49 @@ module _ (piece room : ℕ) (b : Bool) (is_b : b ≡ (eqb piece 0 || ltb room li
       go false true q r = absurd (true≢false r)
       go true y q r = absurd (true≢false r)
 
+  pub piece-some : b ≡ false → (m : ℕ) → m ≡ min piece most → 0 < m
+  piece-some e m p = go (eqb piece 0) refl (sym is_b ∙ e)
+    where
+      go : (x : Bool) → eqb piece 0 ≡ x → (x || ltb room line_most) ≡ false → 0 < m
+      go false q r = some piece refl q
+        where
+          some : (n : ℕ) → piece ≡ n → eqb piece 0 ≡ false → 0 < m
+          some zero z u = absurd (true≢false (sym (ap (λ (y : ℕ). eqb y 0) z) ∙ u))
+          some (suc n) z u = omega (arith, p, z)
+      go true q r = absurd (true≢false r)
+
   pub parts-long : b ≡ false → (m n : ℕ) → m ≡ min piece most → n ≡ min room most → (m ≤ most) × (n ≤ most) × (line_most ≤ n)
   parts-long e m n p q = let l = room-long e in (omega (arith, p), omega (arith, q), omega (arith, q, l))
 
-pub answered : (from to piece place : ℕ) (b : Bool) → b ≡ (eqb piece 0 || ltb place line_most) → (v : Bool) → b ≡ v → (d : Done) → Replays from to d × (d.refusal ≡ cond v output_short 0)
-    → Replays from to d × (d.refusal ≡ cond (eqb piece 0 || ltb place line_most) output_short 0)
-answered from to piece place b is_b v e d h = (h.0, h.1 ∙ ap (λ (x : Bool). cond x output_short 0) (sym e ∙ is_b))
+pub answered : (piece place : ℕ) (b : Bool) → b ≡ (eqb piece 0 || ltb place line_most) → (v : Bool) → b ≡ v → (n : ℕ) → n ≡ cond v output_short 0
+    → n ≡ cond (eqb piece 0 || ltb place line_most) output_short 0
+answered piece place b is_b v e n h = h ∙ ap (λ (x : Bool). cond x output_short 0) (sym e ∙ is_b)
+
+-- what is told may be told in other words
+pub moved-as : (G T G' T' : List ℕ → Type 0) (E E' : Type 0) (from to : ℕ) (d : Done) → ((l : List ℕ) → G l → G' l) → ((l : List ℕ) → T l → T' l) → (E → E') → Moves G T E from to d
+    → Moves G' T' E' from to d
+moved-as G T G' T' E E' from to d f h e m = record { replays = m.replays; gave = f m.replays.bytes m.gave; took = λ u. h m.replays.text (m.took u); ends = λ u. e (m.ends u) }
+
+-- what is printed, where the reader's and the writer's bytes are known
+pub printed-known : (s s' k k' : Option (List ℕ)) (from to : ℕ) (d : Done) → Moves (Consumes s s') (Appends k k') (IsAtEnd s') from to d → d.refusal ≡ 0 → d.read_failed ≡ false
+    → d.write_failed ≡ false → d.too_long ≡ false → IfSome s (λ xs. Appends k k' (replay_prints xs))
+printed-known None s' k k' from to d m a b c e = tt
+printed-known (Some xs) None k k' from to d m a b c e = absurd m.gave
+printed-known (Some xs) (Some ys) k k' from to d m a b c e =
+    subst (Appends k k') (m.replays.whole a b c e ys m.ends ∙ ap replay_prints (sym m.gave)) (m.took c)
+
+pub reading-as : (G T G' T' : List ℕ → Type 0) (from to left : ℕ) (r : Run) (cells : List ℕ) (i : Input) (o : Output) → ((l : List ℕ) → G l → G' l) → ((l : List ℕ) → T l → T' l)
+    → Reading G T from to left r cells i o → Reading G' T' from to left r cells i o
+reading-as G T G' T' from to left r cells i o f h g =
+    record {
+      bytes = g.bytes;
+      text = g.text;
+      is-input = g.is-input;
+      is-output = g.is-output;
+      goes_on = g.goes_on;
+      ready = g.ready;
+      on = g.on;
+      counted = g.counted;
+      gave = f g.bytes g.gave;
+      took = h g.text g.took;
+    }

@@ -1,6 +1,7 @@
 -- What is read from one descriptor and handed to another. docs/RULES.md, "Replay".
 -- Assumes nothing.
-use Rattle.std.specs.Prelude.{ℕ, ◌+◌, ◌-◌, ◌^◌, ◌≤◌, ◌≡◌, Bool, true, false, List, [], ◌++◌, length, take, drop}
+use Rattle.std.specs.Prelude.{ℕ, ◌+◌, ◌-◌, ◌^◌, ◌≤◌, ◌≡◌, Bool, true, false, List, [], ◌++◌, length, take, drop, Option}
+use Rattle.std.specs.Io.KnownBytes.{Appends}
 use Rattle.codec.specs.Refusal.{record_malformed}
 use Rattle.ports.specs.declared.Input.{Input}
 use Rattle.ports.specs.declared.Output.{Output}
@@ -48,7 +49,23 @@ pub record Replays (from to : ℕ) (d : Done) : Type 0 where
   pub long : d.too_long ≡ true → 2 ^ 64 - 1 ≤ length bytes
   pub refused : (d.refusal ≡ 0 → ⊥) → (bytes ≡ []) × (text ≡ [])
 
+-- The same of a reader and a writer: what is told of the bytes that the reader gave; of the text that the writer took, where no write failed; and
+-- of the reader where its end was met.
+pub record Moves (given taken : List ℕ → Type 0) (at_end : Type 0) (from to : ℕ) (d : Done) : Type 0 where
+  pub replays : Replays from to d
+  pub gave : given replays.bytes
+  pub took : d.write_failed ≡ false → taken replays.text
+  pub ends : d.ended ≡ true → at_end
+
+-- nothing was read, and nothing handed over
+abbrev pub IsEmpty : List ℕ → Type 0
+IsEmpty l = l ≡ []
+
 -- ---- on the way
+
+-- the writer held a beginning in the end, and then a text that begins with it
+abbrev pub GoesOn : (start : List ℕ) → (old new : Option (List ℕ)) → List ℕ → Type 0
+GoesOn start old new text = (before : Option (List ℕ)) → Appends before old start → Appends before new text
 
 -- no read and no write is of more bytes
 abbrev pub most : ℕ
@@ -60,15 +77,16 @@ front n l = take (n - 0) l
 
 -- a piece was fed up to a position: its lines were handed over, the last of them by a write that failed or not, and nothing of what is to be
 -- printed is lost
-pub record Feeding (run : Run) (cells piece : List ℕ) (output : Output) (at : ℕ) (run' : Run) (cells' : List ℕ) (failed : Bool) (output' : Output) : Type 0 where
+pub record Feeding (taken : List ℕ → Type 0) (run : Run) (cells piece : List ℕ) (output : Output) (at : ℕ) (run' : Run) (cells' : List ℕ) (failed : Bool) (output' : Output) : Type 0 where
   pub text : List ℕ
   pub is : (to : ℕ) (before : List ℕ) → output ≡ wrote (unwritten to) before → output' ≡ sent failed (wrote (unwritten to) (before ++ text))
   pub goes_on : (more : List ℕ) → ahead run cells (piece ++ more) ≡ text ++ ahead run' cells' (drop at piece ++ more)
   pub ready : Ready run' cells'
+  pub took : failed ≡ false → taken text
 
 -- between two pieces, with so many reads left, each of which brings a byte at least: the run is not over; the text that was handed over, and
 -- what the run prints from here on, are what is printed
-pub record Reading (from to left : ℕ) (run : Run) (cells : List ℕ) (input : Input) (output : Output) : Type 0 where
+pub record Reading (given taken : List ℕ → Type 0) (from to left : ℕ) (run : Run) (cells : List ℕ) (input : Input) (output : Output) : Type 0 where
   pub bytes : List ℕ
   pub text : List ℕ
   pub is-input : input ≡ read (unread from) bytes
@@ -77,3 +95,5 @@ pub record Reading (from to left : ℕ) (run : Run) (cells : List ℕ) (input : 
   pub ready : Ready run cells
   pub on : run.over ≡ false
   pub counted : 2 ^ 64 - 1 ≤ left + length bytes
+  pub gave : given bytes
+  pub took : taken text

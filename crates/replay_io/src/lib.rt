@@ -2,13 +2,15 @@
 // `stream` says what is taken and what is printed, and library `ports` what was read and handed over, each under the number of a descriptor.
 #![tactic(auto)]
 
-ghost use Rattle.std.specs.Prelude.{◌≡◌, false, ◌||◌, cond, ◌≤◌, min, ltb, eqb, length};
+ghost use Rattle.std.specs.Io.KnownBytes.{Appends, Consumes, IsAtEnd};
+ghost use Rattle.stream.specs.Driven.{replay_prints};
+ghost use Rattle.std.specs.Prelude.{◌≡◌, ◌<◌, IfSome, false, ◌||◌, cond, ◌≤◌, min, ltb, eqb, length};
 ghost use Rattle.codec.specs.Refusal.{output_short};
 ghost use Rattle.voting.specs.Settings.{mainnet};
 ghost use Rattle.ports.specs.Ports.{wrote, sent};
 ghost use Rattle.stream.specs.Lines.{head_line, line_most};
 ghost use Rattle.stream.specs.Run.{longest_record, Ready, finish_of, fail_of};
-ghost use Rattle.replay_io.specs.Replays.{most, front, Feeding, Reading, Replays};
+ghost use Rattle.replay_io.specs.Replays.{most, front, Feeding, GoesOn, Moves, IsEmpty, Reading, Replays};
 
 use codec::output::Wrote;
 use codec::refusal;
@@ -52,6 +54,9 @@ pub fn replay<R: Read, W: Write>(
     room: usize,
 ) -> Done
     ensures replays { Replays from to result }
+    ensures moves { Moves (Consumes (R.remaining source.old) (R.remaining source.new)) (Appends (W.contents sink.old) (W.contents sink.new)) (IsAtEnd (R.remaining source.new)) from to result }
+    ensures printed { result.refusal ≡ 0 → result.read_failed ≡ false → result.write_failed ≡ false → result.too_long ≡ false
+        → IfSome (R.remaining source.old) (λ xs. Appends (W.contents sink.old) (W.contents sink.new) (replay_prints xs)) }
     ensures refused { result.refusal ≡ cond (eqb piece 0 || ltb room line_most) output_short 0 }
 {
     if too_short(piece, room) {
@@ -91,7 +96,7 @@ fn least(a: usize, b: usize) -> usize
 
 // 21: nothing was read, and nothing handed over.
 fn unmoved(from: u32, to: u32) -> Done
-    ensures { Replays from to result × (result.refusal ≡ output_short) }
+    ensures { Moves IsEmpty IsEmpty ⊥ from to result × (result.refusal ≡ output_short) }
 {
     Done {
         input: ports::no_input(from),
@@ -139,7 +144,7 @@ fn replay_in<R: Read, W: Write>(
     room: usize,
 ) -> Done
     requires { (piece ≤ most) × (room ≤ most) × (line_most ≤ room) }
-    ensures { Replays from to result × (result.refusal ≡ 0) }
+    ensures { Moves (Consumes (R.remaining source.old) (R.remaining source.new)) (Appends (W.contents sink.old) (W.contents sink.new)) (0 < piece → IsAtEnd (R.remaining source.new)) from to result × (result.refusal ≡ 0) }
 {
     replay_by(rt, source, sink, from, to, cells, buf, out, piece, room)
 }
@@ -157,7 +162,7 @@ fn replay_by<R: Read, W: Write>(
     room: usize,
 ) -> Done
     requires { (longest_record mainnet ≤ length cells.old) × (piece ≤ length buf.old) × (room ≤ length out.old) × (line_most ≤ room) }
-    ensures { Replays from to result × (result.refusal ≡ 0) }
+    ensures { Moves (Consumes (R.remaining source.old) (R.remaining source.new)) (Appends (W.contents sink.old) (W.contents sink.new)) (0 < piece → IsAtEnd (R.remaining source.new)) from to result × (result.refusal ≡ 0) }
 {
     replay_from(
         rt,
@@ -182,7 +187,7 @@ fn replay_from<R: Read, W: Write>(
     out: &mut [u8],
 ) -> Done
     requires { (longest_record mainnet ≤ length cells.old) × (line_most ≤ length out.old) }
-    ensures { Replays from to result × (result.refusal ≡ 0) }
+    ensures { Moves (Consumes (R.remaining source.old) (R.remaining source.new)) (Appends (W.contents sink.old) (W.contents sink.new)) (0 < length buf.old → IsAtEnd (R.remaining source.new)) from to result × (result.refusal ≡ 0) }
 {
     let run = run::begin_mainnet();
     let input = ports::no_input(from);
@@ -211,8 +216,8 @@ fn read_all<R: Read, W: Write>(
     input: Input,
     output: Output,
 ) -> Done
-    requires { Reading from to 18446744073709551615 run cells.old input output × (line_most ≤ length out.old) }
-    ensures { Replays from to result × (result.refusal ≡ 0) }
+    requires { Reading IsEmpty (λ text. text ≡ head_line) from to 18446744073709551615 run cells.old input output × (line_most ≤ length out.old) }
+    ensures { Moves (Consumes (R.remaining source.old) (R.remaining source.new)) (GoesOn head_line (W.contents sink.old) (W.contents sink.new)) (0 < length buf.old → IsAtEnd (R.remaining source.new)) from to result × (result.refusal ≡ 0) }
 {
     let mut state = run;
     let mut got = input;
@@ -257,7 +262,7 @@ fn feed_piece<W: Write>(
     output: Output,
 ) -> Passed
     requires { Ready run cells.old × (line_most ≤ length out.old) }
-    ensures { Feeding run cells.old piece.now output result.at result.run cells.new result.failed result.output
+    ensures { Feeding (Appends (W.contents sink.old) (W.contents sink.new)) run cells.old piece.now output result.at result.run cells.new result.failed result.output
         × (result.failed ≡ false → length piece.now ≤ result.at) }
 {
     let mut state = run;
@@ -290,14 +295,16 @@ fn feed_piece<W: Write>(
 // Hands over what stands at the start of the buffer.
 fn hand_over<W: Write>(rt: &impl Eprint, sink: &mut W, output: Output, out: &[u8], n: usize) -> Sent
     requires { n ≤ length out.now }
-    ensures { result.output ≡ sent result.failed (wrote output (front n out.now)) }
+    ensures booked { result.output ≡ sent result.failed (wrote output (front n out.now)) }
+    ensures bytes { result.failed ≡ false → Appends (W.contents sink.old) (W.contents sink.new) (front n out.now) }
 {
     ports::send(rt, sink, output, &out[0..n])
 }
 
 fn send_head<W: Write>(rt: &impl Eprint, sink: &mut W, out: &mut [u8], output: Output) -> Sent
     requires { line_most ≤ length out.old }
-    ensures { result.output ≡ sent result.failed (wrote output head_line) }
+    ensures booked { result.output ≡ sent result.failed (wrote output head_line) }
+    ensures bytes { result.failed ≡ false → Appends (W.contents sink.old) (W.contents sink.new) head_line }
 {
     match lines::write_head(out) {
         Wrote::Bytes(n) => hand_over(rt, sink, output, out, n),
@@ -316,7 +323,8 @@ fn send_finish<W: Write>(
     out: &mut [u8],
     output: Output,
 ) -> Sent
-    ensures { result.output ≡ sent result.failed (wrote output (finish_of run cells.now (length out.old)).text) }
+    ensures booked { result.output ≡ sent result.failed (wrote output (finish_of run cells.now (length out.old)).text) }
+    ensures bytes { result.failed ≡ false → Appends (W.contents sink.old) (W.contents sink.new) (finish_of run cells.now (length out.old)).text }
 {
     let fed = run::finish(run, cells, out);
     let n = fed.wrote;
@@ -331,7 +339,8 @@ fn send_fail<W: Write>(
     out: &mut [u8],
     output: Output,
 ) -> Sent
-    ensures { result.output ≡ sent result.failed (wrote output (fail_of run cells.now (length out.old)).text) }
+    ensures booked { result.output ≡ sent result.failed (wrote output (fail_of run cells.now (length out.old)).text) }
+    ensures bytes { result.failed ≡ false → Appends (W.contents sink.old) (W.contents sink.new) (fail_of run cells.now (length out.old)).text }
 {
     let fed = run::fail(run, cells, out);
     let n = fed.wrote;

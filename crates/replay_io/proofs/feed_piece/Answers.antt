@@ -1,5 +1,13 @@
-use Rattle.replay_io.proofs.Laws.{going_on, going-cut}
+use Rattle.std.proofs.KnownBytes.{Appends-nil, Appends-trans}
+use Rattle.std.specs.Io.KnownBytes.{Appends}
+use Rattle.replay_io.proofs.Laws.{going-starts, going_on, going-cut}
 use Rattle.replay_io.proofs.feed_piece.Goals as goal
+
+pub loop-at-init : goal.loop-at-init
+loop-at-init g c =
+    let a = c.args in
+    let k = g.W.Write.contents a.sink.now in
+    going-starts (Appends k k) a.run a.cells.now a.piece.now a.output a.out.now c.requires (Appends-nil k)
 
 pub returns-then-sent : goal.returns-then-sent
 returns-then-sent g c =
@@ -7,8 +15,12 @@ returns-then-sent g c =
     let a = c.args in
     let f = c.feed-fed in
     let e = f.ensures in
-    going-cut a.run a.cells.now a.piece.now a.output a.out.now l.at l.state l.cells l.handed l.out l.invariant f.result f.new.cells f.new.out
-    (e.value, (e.lent, (e.lines, (e.feeds, e.inside)))) c.hand_over-sent.result.failed _ c.hand_over-sent.ensures c.if-sent.true
+    let m = c.hand_over-sent in
+    let k = g.W.Write.contents a.sink.now in
+    let k1 = g.W.Write.contents l.sink in
+    let k2 = g.W.Write.contents m.new.sink in
+    going-cut (Appends k k1) a.run a.cells.now a.piece.now a.output a.out.now l.at l.state l.cells l.handed l.out l.invariant f.result f.new.cells f.new.out
+    (e.value, (e.lent, (e.lines, (e.feeds, e.inside)))) m.result.failed _ m.ensures.booked (Appends k1 k2) (Appends k k2) m.ensures.bytes (λ s u. Appends-trans k k1 k2 s u) c.if-sent.true
 
 pub loop-at-preserved : goal.loop-at-preserved
 loop-at-preserved g c =
@@ -16,5 +28,10 @@ loop-at-preserved g c =
     let a = c.args in
     let f = c.feed-fed in
     let e = f.ensures in
-    going_on a.run a.cells.now a.piece.now a.output a.out.now l.at l.state l.cells l.handed l.out l.invariant f.result f.new.cells f.new.out
-    (e.value, (e.lent, (e.lines, (e.feeds, e.inside)))) c.hand_over-sent.result.failed _ c.hand_over-sent.ensures c.if-sent.false f.auto.cells f.auto.out
+    let m = c.hand_over-sent in
+    let k = g.W.Write.contents a.sink.now in
+    let k1 = g.W.Write.contents l.sink in
+    let k2 = g.W.Write.contents m.new.sink in
+    going_on (Appends k k1) a.run a.cells.now a.piece.now a.output a.out.now l.at l.state l.cells l.handed l.out l.invariant f.result f.new.cells f.new.out
+    (e.value, (e.lent, (e.lines, (e.feeds, e.inside)))) m.result.failed _ m.ensures.booked (Appends k1 k2) (Appends k k2) m.ensures.bytes (λ s u. Appends-trans k k1 k2 s u) c.if-sent.false
+    f.auto.cells f.auto.out

@@ -1,6 +1,23 @@
-use Rattle.std.proofs.Common.{◌∙◌}
-use Rattle.replay_io.proofs.Laws.{still-above, ends-finish, ends-fail, ends-cut, ends-over, ends-long, reading-on}
+use Rattle.std.proofs.Common.{◌≡◌, ◌<◌, ◌∙◌, subst, sym, refl, length, rules}
+use Rattle.std.proofs.KnownBytes.{Appends-trans, Consumes-nil, Consumes-trans}
+use Rattle.std.specs.Io.KnownBytes.{Appends, Consumes, IsAtEnd}
+use Rattle.stream.specs.Lines.{head_line}
+use Rattle.replay_io.specs.Replays.{GoesOn, IsEmpty}
+use Rattle.replay_io.proofs.Laws.{still-above, reading-as, ends-finish, ends-fail, ends-cut, ends-over, ends-long, reading-on}
 use Rattle.replay_io.proofs.read_all.Goals as goal
+
+pub loop-turns-init : goal.loop-turns-init
+loop-turns-init g c =
+    let a = c.args in
+    let s = g.R.Read.remaining a.source.now in
+    let k = g.W.Write.contents a.sink.now in (
+      reading-as IsEmpty (λ t. t ≡ head_line) (Consumes s s) (GoesOn head_line k k) a.from a.to 18446744073709551615 a.run a.cells.now a.input a.output
+          (λ l e. subst (Consumes s s) (sym e) (Consumes-nil s)) (λ l e. λ before h. subst (Appends before k) (sym e) h) c.requires.0,
+      c.requires.1,
+      refl,
+      refl,
+      refl,
+    )
 
 pub returns-then-came : goal.returns-then-came
 returns-then-came g c =
@@ -8,8 +25,16 @@ returns-then-came g c =
     let a = c.args in
     let m = c.receive-came in
     let r = m.result in
-    ends-fail a.from a.to l.turns l.state l.cells l.got l.handed l.invariant.0 r.failed r.input r.count m.new.buf m.ensures.booked c.if-came.true _ l.invariant.1
-    c.send_fail-sent.result.failed _ c.send_fail-sent.ensures _ c.stopped.ensures
+    let s = g.R.Read.remaining a.source.now in
+    let s1 = g.R.Read.remaining l.source in
+    let s2 = g.R.Read.remaining m.new.source in
+    let k = g.W.Write.contents a.sink.now in
+    let k1 = g.W.Write.contents l.sink in
+    let k2 = g.W.Write.contents c.send_fail-sent.new.sink in
+    ends-fail (Consumes s s1) (GoesOn head_line k k1) a.from a.to l.turns l.state l.cells l.got l.handed l.invariant.0 r.failed r.input r.count m.new.buf m.ensures.booked
+    (Consumes s s2) (GoesOn head_line k k2) (Consumes s1 s2) (Appends k1 k2) (0 < length a.buf.now → IsAtEnd s2) m.ensures.bytes (λ x y. Consumes-trans s s1 s2 x y)
+    (λ x y f h. λ before e. Appends-trans before k1 k2 x y (f before e) h)
+    c.if-came.true (m.ensures.none c.if-came.true) _ l.invariant.1 c.send_fail-sent.result.failed _ c.send_fail-sent.ensures.booked c.send_fail-sent.ensures.bytes _ c.stopped.ensures
 
 pub returns-then-n-eq0 : goal.returns-then-n-eq0
 returns-then-n-eq0 g c =
@@ -17,8 +42,16 @@ returns-then-n-eq0 g c =
     let a = c.args in
     let m = c.receive-came in
     let r = m.result in
-    ends-finish a.from a.to l.turns l.state l.cells l.got l.handed l.invariant.0 r.failed r.input r.count m.new.buf m.ensures.booked c.if-came.false c.if-n-eq0.true _
-    l.invariant.1 c.send_finish-sent.result.failed _ c.send_finish-sent.ensures _ c.stopped-then-n-eq0.ensures
+    let s = g.R.Read.remaining a.source.now in
+    let s1 = g.R.Read.remaining l.source in
+    let s2 = g.R.Read.remaining m.new.source in
+    let k = g.W.Write.contents a.sink.now in
+    let k1 = g.W.Write.contents l.sink in
+    let k2 = g.W.Write.contents c.send_finish-sent.new.sink in
+    ends-finish (Consumes s s1) (GoesOn head_line k k1) a.from a.to l.turns l.state l.cells l.got l.handed l.invariant.0 r.failed r.input r.count m.new.buf m.ensures.booked
+    (Consumes s s2) (GoesOn head_line k k2) (Consumes s1 s2) (Appends k1 k2) (0 < length a.buf.now → IsAtEnd s2) m.ensures.bytes (λ x y. Consumes-trans s s1 s2 x y)
+    (λ x y f h. λ before e. Appends-trans before k1 k2 x y (f before e) h)
+    c.if-came.false c.if-n-eq0.true _ l.invariant.1 c.send_finish-sent.result.failed _ c.send_finish-sent.ensures.booked c.send_finish-sent.ensures.bytes (search rules) _ c.stopped-then-n-eq0.ensures
 
 pub returns-then-passed : goal.returns-then-passed
 returns-then-passed g c =
@@ -26,10 +59,16 @@ returns-then-passed g c =
     let a = c.args in
     let m = c.receive-came in
     let r = m.result in
-    let f = c.feed_piece-passed in
-    let p = f.result in
-    ends-cut a.from a.to l.turns l.state l.cells l.got l.handed l.invariant.0 r.failed r.input r.count m.new.buf m.ensures.booked c.if-came.false c.if-n-eq0.false p.at p.run
-    f.new.cells p.failed p.output f.ensures.0 c.if-passed.true _ c.stopped-then-passed.ensures
+    let s = g.R.Read.remaining a.source.now in
+    let s1 = g.R.Read.remaining l.source in
+    let s2 = g.R.Read.remaining m.new.source in
+    let k = g.W.Write.contents a.sink.now in
+    let k1 = g.W.Write.contents l.sink in
+    let k2 = g.W.Write.contents c.feed_piece-passed.new.sink in
+    ends-cut (Consumes s s1) (GoesOn head_line k k1) a.from a.to l.turns l.state l.cells l.got l.handed l.invariant.0 r.failed r.input r.count m.new.buf m.ensures.booked
+    (Consumes s s2) (GoesOn head_line k k2) (Consumes s1 s2) (Appends k1 k2) (0 < length a.buf.now → IsAtEnd s2) m.ensures.bytes (λ x y. Consumes-trans s s1 s2 x y)
+    (λ x y f h. λ before e. Appends-trans before k1 k2 x y (f before e) h)
+    c.if-came.false c.if-n-eq0.false c.feed_piece-passed.result.at c.feed_piece-passed.result.run c.feed_piece-passed.new.cells c.feed_piece-passed.result.failed c.feed_piece-passed.result.output c.feed_piece-passed.ensures.0 c.if-passed.true _ c.stopped-then-passed.ensures
 
 pub returns-then-state : goal.returns-then-state
 returns-then-state g c =
@@ -37,10 +76,16 @@ returns-then-state g c =
     let a = c.args in
     let m = c.receive-came in
     let r = m.result in
-    let f = c.feed_piece-passed in
-    let p = f.result in
-    ends-over a.from a.to l.turns l.state l.cells l.got l.handed l.invariant.0 r.failed r.input r.count m.new.buf m.ensures.booked c.if-came.false c.if-n-eq0.false p.at p.run
-    f.new.cells p.failed p.output f.ensures.0 c.if-passed.false c.if-state.true _ c.stopped-then-state.ensures
+    let s = g.R.Read.remaining a.source.now in
+    let s1 = g.R.Read.remaining l.source in
+    let s2 = g.R.Read.remaining m.new.source in
+    let k = g.W.Write.contents a.sink.now in
+    let k1 = g.W.Write.contents l.sink in
+    let k2 = g.W.Write.contents c.feed_piece-passed.new.sink in
+    ends-over (Consumes s s1) (GoesOn head_line k k1) a.from a.to l.turns l.state l.cells l.got l.handed l.invariant.0 r.failed r.input r.count m.new.buf m.ensures.booked
+    (Consumes s s2) (GoesOn head_line k k2) (Consumes s1 s2) (Appends k1 k2) (0 < length a.buf.now → IsAtEnd s2) m.ensures.bytes (λ x y. Consumes-trans s s1 s2 x y)
+    (λ x y f h. λ before e. Appends-trans before k1 k2 x y (f before e) h)
+    c.if-came.false c.if-n-eq0.false c.feed_piece-passed.result.at c.feed_piece-passed.result.run c.feed_piece-passed.new.cells c.feed_piece-passed.result.failed c.feed_piece-passed.result.output c.feed_piece-passed.ensures.0 c.if-passed.false c.if-state.true _ c.stopped-then-state.ensures
 
 pub loop-turns-preserved : goal.loop-turns-preserved
 loop-turns-preserved g c =
@@ -48,11 +93,18 @@ loop-turns-preserved g c =
     let a = c.args in
     let m = c.receive-came in
     let r = m.result in
+    let s = g.R.Read.remaining a.source.now in
+    let s1 = g.R.Read.remaining l.source in
+    let s2 = g.R.Read.remaining m.new.source in
+    let k = g.W.Write.contents a.sink.now in
+    let k1 = g.W.Write.contents l.sink in
+    let k2 = g.W.Write.contents c.feed_piece-passed.new.sink in
     let f = c.feed_piece-passed in
-    let p = f.result in
     let i = l.invariant in (
-      reading-on a.from a.to l.turns l.state l.cells l.got l.handed i.0 r.failed r.input r.count m.new.buf m.ensures.booked c.if-came.false c.if-n-eq0.false p.at p.run
-          f.new.cells p.failed p.output f.ensures.0 c.if-passed.false (f.ensures.1 c.if-passed.false) c.if-state.false c.loop-turns-test.true m.ensures.within,
+      reading-on (Consumes s s1) (GoesOn head_line k k1) a.from a.to l.turns l.state l.cells l.got l.handed l.invariant.0 r.failed r.input r.count m.new.buf m.ensures.booked
+          (Consumes s s2) (GoesOn head_line k k2) (Consumes s1 s2) (Appends k1 k2) (0 < length a.buf.now → IsAtEnd s2) m.ensures.bytes (λ x y. Consumes-trans s s1 s2 x y)
+          (λ x y f h. λ before e. Appends-trans before k1 k2 x y (f before e) h)
+          c.if-came.false c.if-n-eq0.false c.feed_piece-passed.result.at c.feed_piece-passed.result.run c.feed_piece-passed.new.cells c.feed_piece-passed.result.failed c.feed_piece-passed.result.output c.feed_piece-passed.ensures.0 c.if-passed.false (f.ensures.1 c.if-passed.false) c.if-state.false c.loop-turns-test.true m.ensures.within,
       still-above _ _ _ f.auto.out i.1,
       f.auto.cells ∙ i.2,
       m.auto.buf ∙ i.3,
@@ -63,4 +115,8 @@ pub returns : goal.returns
 returns g c =
     let l = c.loop-turns in
     let a = c.args in
-    ends-long a.from a.to l.turns l.state l.cells l.got l.handed l.invariant.0 c.loop-turns-test.false _ c.stopped-2.ensures
+    let s = g.R.Read.remaining a.source.now in
+    let s1 = g.R.Read.remaining l.source in
+    let k = g.W.Write.contents a.sink.now in
+    let k1 = g.W.Write.contents l.sink in
+    ends-long (Consumes s s1) (GoesOn head_line k k1) a.from a.to l.turns l.state l.cells l.got l.handed l.invariant.0 (0 < length a.buf.now → IsAtEnd s1) c.loop-turns-test.false _ c.stopped-2.ensures

@@ -1,18 +1,41 @@
-use Rattle.std.proofs.Common.{true, false}
-use Rattle.replay_io.proofs.Laws.{answered, parts-long}
+use Rattle.std.proofs.Common.{◌<◌, true, false, subst, sym}
+use Rattle.std.proofs.KnownBytes.{Appends-nil, Consumes-nil}
+use Rattle.std.specs.Io.KnownBytes.{Appends, Consumes, IsAtEnd}
+use Rattle.replay_io.specs.Replays.{IsEmpty, Moves}
+use Rattle.replay_io.proofs.Laws.{answered, parts-long, piece-some, moved-as, printed-known}
 use Rattle.replay_io.proofs.replay.Goals as goal
 
 pub returns-then-too_short : goal.returns-then-too_short
-returns-then-too_short g c = let a = c.args in record {
-  replays = (answered a.from a.to a.piece a.room _ c.too_short.ensures true c.if-too_short.true _ c.unmoved.ensures).0;
-  refused = (answered a.from a.to a.piece a.room _ c.too_short.ensures true c.if-too_short.true _ c.unmoved.ensures).1;
-}
+returns-then-too_short g c =
+    let a = c.args in
+    let s = g.R.Read.remaining a.source.now in
+    let k = g.W.Write.contents a.sink.now in
+    let m : Moves (Consumes s s) (Appends k k) (IsAtEnd s) a.from a.to c.unmoved.result =
+    moved-as IsEmpty IsEmpty (Consumes s s) (Appends k k) ⊥ (IsAtEnd s) a.from a.to _ (λ l e. subst (Consumes s s) (sym e) (Consumes-nil s)) (λ l e. subst (Appends k k) (sym e) (Appends-nil k))
+    (λ e. absurd e) c.unmoved.ensures.0 in
+    record {
+      replays = m.replays;
+      moves = m;
+      printed = printed-known s s k k a.from a.to _ m;
+      refused = answered a.piece a.room _ c.too_short.ensures true c.if-too_short.true _ c.unmoved.ensures.1;
+    }
 
 pub replay_in-requires : goal.replay_in-requires
 replay_in-requires g c = let a = c.args in parts-long a.piece a.room _ c.too_short.ensures c.if-too_short.false _ _ c.least.ensures c.least-2.ensures
 
 pub returns : goal.returns
-returns g c = let a = c.args in record {
-  replays = (answered a.from a.to a.piece a.room _ c.too_short.ensures false c.if-too_short.false _ c.replay_in.ensures).0;
-  refused = (answered a.from a.to a.piece a.room _ c.too_short.ensures false c.if-too_short.false _ c.replay_in.ensures).1;
-}
+returns g c =
+    let a = c.args in
+    let s = g.R.Read.remaining a.source.now in
+    let s1 = g.R.Read.remaining c.replay_in.new.source in
+    let k = g.W.Write.contents a.sink.now in
+    let k1 = g.W.Write.contents c.replay_in.new.sink in
+    let m : Moves (Consumes s s1) (Appends k k1) (IsAtEnd s1) a.from a.to c.replay_in.result =
+    moved-as (Consumes s s1) (Appends k k1) (Consumes s s1) (Appends k k1) (0 < c.least.result → IsAtEnd s1) (IsAtEnd s1) a.from a.to _ (λ l h. h) (λ l h. h)
+    (λ e. e (piece-some a.piece a.room _ c.too_short.ensures c.if-too_short.false _ c.least.ensures)) c.replay_in.ensures.0 in
+    record {
+      replays = m.replays;
+      moves = m;
+      printed = printed-known s s1 k k1 a.from a.to _ m;
+      refused = answered a.piece a.room _ c.too_short.ensures false c.if-too_short.false _ c.replay_in.ensures.1;
+    }
