@@ -10,6 +10,7 @@ ghost use Rattle.legal_votes.specs.Prints.{Prints};
 use legal::listing;
 use legal::next::NextVotes;
 use ports::Sent;
+use std::env::Env;
 use std::io::{Eprint, Write};
 
 const STANDARD_OUTPUT: u32 = 1;
@@ -65,8 +66,14 @@ fn print_in<W: Write>(rt: &impl Eprint, sink: &mut W, out: &mut [u8; MOST]) -> S
     print_all(rt, sink, STANDARD_OUTPUT, out)
 }
 
+// Whether there is a word, of any length, at a place behind the program's name.
+fn has_word(rt: &impl Env, place: usize) -> bool {
+    let mut start = [0u8; 1];
+    ports::argument(rt, place, &mut start).is_some()
+}
+
 fn main(rt: HostRuntime) {
-    if ports::has_argument(&rt, 1) {
+    if has_word(&rt, 1) {
         tell(&rt);
         return;
     }

@@ -5,6 +5,7 @@
 ghost use Rattle.std.specs.Prelude.{◌≡◌, ◌+◌, ◌%◌, ◌^◌, ◌<◌, ◌≤◌, false, true, length, take, IfSome, IfOk, OnOk, OnErr};
 ghost use Rattle.std.specs.Io.{ReadsAtMost};
 ghost use Rattle.std.specs.Io.KnownBytes.{Keeps, Appends, Consumes, IsAtEnd};
+ghost use Rattle.ports.specs.Cause.{CauseOf};
 ghost use Rattle.ports.specs.Ports.{unread, unwritten, read_by, stopped_by, came, wrote, handed_by, sent};
 
 use std::env::{Env, FillError};
@@ -151,14 +152,16 @@ fn counted(before: u64, n: usize) -> u64
 }
 
 // Tells on standard error what failed, and its cause. Nothing more can be told where that fails.
-pub fn tell(rt: &impl Eprint, what: &str, error: io::Error) {
+fn tell(rt: &impl Eprint, what: &str, error: io::Error) {
     let text = InlineText::<256>::of(error);
-    let cause = without_number(text.as_str());
+    let cause = cause_of(text.as_str());
     let _ = rt.eprintln(format_args!("{what}: {cause}"));
 }
 
 // An error's text without the system's number of it.
-fn without_number(text: &str) -> &str {
+pub fn cause_of(text: &str) -> &str
+    ensures { CauseOf text.now result.now }
+{
     match text.find(" (os error ") {
         Some(end) => &text[..end],
         None => text,
@@ -210,10 +213,4 @@ pub fn argument(rt: &impl Env, place: usize, buf: &mut [u8]) -> Option<usize>
         Err(FillError::TooLong) => Some(0),
         Err(FillError::NotPresent) => None,
     }
-}
-
-// Whether there is an argument, of any length, at a place.
-pub fn has_argument(rt: &impl Env, place: usize) -> bool {
-    let mut start = [0u8; 1];
-    argument(rt, place, &mut start).is_some()
 }

@@ -2,6 +2,8 @@
 // library `replay_io`.
 #![tactic(auto)]
 
+use std::env::Env;
+use std::fmt::InlineText;
 use std::fs::File;
 use std::io::{Eprint, ErrorKind, Print, Read};
 use std::os::fd::AsRawFd;
@@ -35,8 +37,9 @@ fn run<R: Read>(rt: &HostRuntime, source: &mut R, descriptor: u32) {
 }
 
 fn tell_unopened(rt: &impl Eprint, path: &str, error: io::Error) {
-    let _ = rt.eprint("replay: ");
-    ports::tell(rt, path, error);
+    let text = InlineText::<256>::of(error);
+    let cause = ports::cause_of(text.as_str());
+    let _ = rt.eprintln(format_args!("replay: {path}: {cause}"));
 }
 
 fn run_file(rt: &HostRuntime, path: &str) {
@@ -62,6 +65,12 @@ fn run_word(rt: &HostRuntime, word: &str) {
     run_file(rt, word);
 }
 
+// Whether there is a word, of any length, at a place behind the program's name.
+fn has_word(rt: &impl Env, place: usize) -> bool {
+    let mut start = [0u8; 1];
+    ports::argument(rt, place, &mut start).is_some()
+}
+
 // The word at a place; none where it is too long. A file's name is text in UTF-8.
 fn run_place(rt: &HostRuntime, place: usize) {
     let mut word = [0u8; WORD_MOST];
@@ -73,11 +82,11 @@ fn run_place(rt: &HostRuntime, place: usize) {
 }
 
 fn main(rt: HostRuntime) {
-    if !ports::has_argument(&rt, 1) {
+    if !has_word(&rt, 1) {
         run(&rt, &mut rt.stdin(), STANDARD_INPUT);
         return;
     }
-    if ports::has_argument(&rt, 2) {
+    if has_word(&rt, 2) {
         tell(&rt);
         return;
     }

@@ -5,7 +5,7 @@
 
 use std::fmt::InlineText;
 use std::fs::File;
-use std::io::{Error, ErrorKind, Print, Write};
+use std::io::{Eprint, Error, ErrorKind, Print, Write};
 use std::os::fd::AsRawFd;
 use std::{io, str};
 
@@ -69,10 +69,17 @@ fn open(rt: &HostRuntime, name: &str, ending: &str) -> io::Result<File> {
     open_path(rt, path.as_str())
 }
 
+// Tells on standard error what failed, and its cause.
+fn tell(rt: &impl Eprint, what: &str, error: Error) {
+    let text = InlineText::<256>::of(error);
+    let cause = ports::cause_of(text.as_str());
+    let _ = rt.eprintln(format_args!("{what}: {cause}"));
+}
+
 fn open_path(rt: &HostRuntime, path: &str) -> io::Result<File> {
     let opened = File::open(rt, path);
     if let Err(error) = &opened {
-        ports::tell(rt, path, *error);
+        tell(rt, path, *error);
     }
     opened
 }
@@ -141,7 +148,7 @@ fn run_name(rt: &HostRuntime, name: &[u8]) -> bool {
     let same = match str::from_utf8(name) {
         Ok(text) => run_pair(rt, text),
         Err(_) => {
-            ports::tell(rt, "a name", Error::from(ErrorKind::InvalidFilename));
+            tell(rt, "a name", Error::from(ErrorKind::InvalidFilename));
             unopened(rt)
         }
     };

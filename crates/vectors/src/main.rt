@@ -8,8 +8,9 @@ mod row;
 mod run;
 mod text;
 
+use std::fmt::InlineText;
 use std::fs::File;
-use std::io::{Error, ErrorKind, Print};
+use std::io::{Eprint, Error, ErrorKind, Print};
 use std::str;
 
 // A file has at most so many bytes.
@@ -111,8 +112,15 @@ fn run_path(rt: &HostRuntime, path: &str) {
     }
 }
 
+// Tells on standard error what failed, and its cause.
+fn tell(rt: &impl Eprint, what: &str, error: Error) {
+    let text = InlineText::<256>::of(error);
+    let cause = ports::cause_of(text.as_str());
+    let _ = rt.eprintln(format_args!("{what}: {cause}"));
+}
+
 fn tell_unopened(rt: &HostRuntime, path: &str, error: Error) {
-    ports::tell(rt, path, error);
+    tell(rt, path, error);
     let _ = rt.print("not opened\n");
 }
 
