@@ -1,7 +1,6 @@
 -- How fast the ordinary parameters move on mainnet, in numbers. docs/RULES.md, "Steps over the years".
 -- Assumes nothing.
-use Rattle.std.specs.Prelude.{ℕ, ◌≤◌, ◌≡◌, List, [], ℤ}
-use Rattle.voting.specs.declared.table.Value.TheVariants.{Number}
+use Rattle.std.specs.Prelude.{ℕ, ◌≤◌, ◌≡◌, List, [], ℤ, Some}
 use Rattle.voting.specs.Common.{Each, Bytes}
 use Rattle.voting.specs.Table.{lookup}
 use Rattle.voting.specs.Steps.{Step}
@@ -18,5 +17,5 @@ use Rattle.archive.specs.Steps.{epoch_before}
 abbrev pub MainnetSteps : Opened → Type 0
 MainnetSteps r =
     (calls : List (List ℕ)) → Each Bytes calls → (xs : List ℕ) → (replay_of (state_after r.state calls) xs).verdict ≡ Accepted
-    → (p : ℕ) → 1 ≤ p → p ≤ 9 → (z : ℤ) → lookup (state_after r.state calls).table p ≡ Number z
+    → (p : ℕ) → 1 ≤ p → p ≤ 9 → (z : ℤ) → lookup (state_after r.state calls).table p ≡ Some z
     → Step 512 (epoch_before [] r.state calls) p z (lookup (replay_of (state_after r.state calls) xs).state.table p)

@@ -1,10 +1,9 @@
 -- The promise over every list of records, of the replay itself: what is handed to it are byte strings, one after another, refused ones
 -- included. docs/RULES.md, "Replay". What the promise says, in mainnet's numbers, is crates/rounds/specs/Mainnet.antt.
 -- Assumes nothing.
-use Rattle.std.specs.Prelude.{ℕ, ◌≤◌, ◌≡◌, List, [], ◌∷◌, pos}
+use Rattle.std.specs.Prelude.{ℕ, ◌≤◌, ◌≡◌, List, [], ◌∷◌, pos, None, Some}
 use Rattle.codec.specs.Refusal.{entry_differs}
 use Rattle.voting.specs.declared.settings.VotingConfig.{VotingConfig}
-use Rattle.voting.specs.declared.table.Value.TheVariants.{Absent, Number}
 use Rattle.voting.specs.declared.table.Table.{Table}
 use Rattle.voting.specs.declared.tally.Tally.{Tally}
 use Rattle.voting.specs.Settings.{mainnet}
@@ -85,5 +84,5 @@ pub record Kept (s : Replay) (version : ℕ) (calls : List (List ℕ)) : Type 0 
 -- replay, one byte string after another
 abbrev pub RoundsKept : Table → Opened → Type 0
 RoundsKept t r =
-    (version : ℕ) → 1 ≤ version → version ≤ 255 → t.fork ≡ fork_entries Absent Absent (Number (pos version)) → r.refusal ≡ 0
+    (version : ℕ) → 1 ≤ version → version ≤ 255 → t.fork ≡ fork_entries None None (Some (pos version)) → r.refusal ≡ 0
     → (calls : List (List ℕ)) → Kept r.state version calls

@@ -1,10 +1,9 @@
 -- Five records, by settings in which an epoch has three headers, so that two votes are more than half; and a year of steps one way.
 -- docs/RULES.md, "Steps over the years".
 -- Assumes nothing.
-use Rattle.std.specs.Prelude.{ℕ, zero, suc, ◌≡◌, List, [], ◌∷◌, ◌++◌, ℤ, pos, replicate}
+use Rattle.std.specs.Prelude.{ℕ, zero, suc, ◌≡◌, List, [], ◌∷◌, ◌++◌, ℤ, pos, replicate, Some}
 use Rattle.codec.specs.BigEndian.{big_endian_bytes}
-use Rattle.voting.specs.declared.table.Value.{Value}
-use Rattle.voting.specs.declared.table.Value.TheVariants.{Number}
+use Rattle.voting.specs.Value.{Value}
 use Rattle.voting.specs.Settings.{settings}
 use Rattle.voting.specs.Table.{lookup}
 use Rattle.voting.specs.Tally.{no_tally, counted_for}
@@ -57,11 +56,11 @@ pub record StepsTaken : Type 0 where
   pub turned_down : (replay_of (state_after start (first ∷ [])) wrong).verdict ≡ Mismatch 1
   pub two-for-up : counted_after 1 (first ∷ wrong ∷ []) ≡ 2
   pub none-for-down : counted_after 255 (first ∷ wrong ∷ []) ≡ 0
-  pub up-beyond-greatest : value_after (first ∷ wrong ∷ second ∷ []) ≡ Number (pos 2524999)
+  pub up-beyond-greatest : value_after (first ∷ wrong ∷ second ∷ []) ≡ Some (pos 2524999)
   pub silent-boundary : counted_after 1 (first ∷ wrong ∷ second ∷ []) ≡ 0
-  pub stays : value_after (first ∷ wrong ∷ second ∷ third ∷ []) ≡ Number (pos 2524999)
+  pub stays : value_after (first ∷ wrong ∷ second ∷ third ∷ []) ≡ Some (pos 2524999)
   pub two-for-down : counted_after 255 (first ∷ wrong ∷ second ∷ third ∷ []) ≡ 2
-  pub down : value_after (first ∷ wrong ∷ second ∷ third ∷ fourth ∷ []) ≡ Number (pos 2499999)
+  pub down : value_after (first ∷ wrong ∷ second ∷ third ∷ fourth ∷ []) ≡ Some (pos 2499999)
 
 -- one step after another
 unfoldable pub repeated : ℕ → (ℤ → ℤ) → ℤ → ℤ

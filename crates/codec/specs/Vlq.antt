@@ -1,8 +1,7 @@
 -- Numbers of variable length (VLQ): seven bits a byte, low first, the high bit continues. docs/RULES.md, "Settings update".
 -- Assumes nothing.
-use Rattle.std.specs.Prelude.{◌≡◌, ℕ, zero, suc, ◌+◌, ◌*◌, ◌/◌, ◌%◌, ◌^◌, ◌<◌, ◌≤◌, Bool, true, false, cond, List, [], ◌∷◌, ◌++◌, length, drop, nat_lt}
-use Rattle.codec.specs.declared.vlq.Read.{Read}
-use Rattle.codec.specs.declared.vlq.Read.TheVariants.{Value, Unreadable}
+use Rattle.std.specs.Prelude.{◌≡◌, ℕ, zero, suc, ◌+◌, ◌*◌, ◌/◌, ◌%◌, ◌^◌, ◌<◌, ◌≤◌, Bool, true, false, cond, List, [], ◌∷◌, ◌++◌, length, drop, nat_lt, Option, Some, None}
+use Rattle.codec.specs.declared.vlq.Number.{Number}
 
 -- what bytes begin with: a number and how many bytes it takes, or no number
 pub data Found : Type 0 where
@@ -40,12 +39,12 @@ unfoldable pub vlq_of : ℕ → List ℕ → Found
 vlq_of width s = below (2 ^ width) (low64 (number_of 10 s))
 
 -- what is answered for bytes that stand at a position: the value, and the position after its bytes
-unfoldable pub placed : ℕ → Found → Read
-placed at (found v n) = Value (record { value = v; next = at + n })
-placed at unreadable = Unreadable
+unfoldable pub placed : ℕ → Found → Option Number
+placed at (found v n) = Some (record { value = v; next = at + n })
+placed at unreadable = None
 
 -- the number of the named width at a position
-unfoldable pub vlq_at : ℕ → List ℕ → ℕ → Read
+unfoldable pub vlq_at : ℕ → List ℕ → ℕ → Option Number
 vlq_at width s at = placed at (vlq_of width (drop at s))
 
 -- the number in shortest form, of at most n bytes

@@ -14,66 +14,50 @@ pub struct Number {
     pub next: usize,
 }
 
-#[derive(Clone, Copy)]
-pub enum Read {
-    Value(Number),
-    Unreadable,
-}
-
 // The number of 16 bits at a position.
-pub fn read_u16(s: &[u8], at: usize) -> Read
+pub fn read_u16(s: &[u8], at: usize) -> Option<Number>
     ensures { result ≡ vlq_at 16 s.now at }
 {
     read_below(s, at, 0x1_0000)
 }
 
 // The number of 32 bits at a position.
-pub fn read_u32(s: &[u8], at: usize) -> Read
+pub fn read_u32(s: &[u8], at: usize) -> Option<Number>
     ensures { result ≡ vlq_at 32 s.now at }
 {
     read_below(s, at, 0x1_0000_0000)
 }
 
 // The number at a position, if it is below limit.
-fn read_below(s: &[u8], at: usize, limit: u64) -> Read
+fn read_below(s: &[u8], at: usize, limit: u64) -> Option<Number>
     ensures { result ≡ placed at (below limit (low64 (number_of 10 (drop at s.now)))) }
 {
-    match read_from(s, at, 10) {
-        Read::Value(n) => {
-            if n.value < limit {
-                Read::Value(n)
-            } else {
-                Read::Unreadable
-            }
-        }
-        Read::Unreadable => Read::Unreadable,
-    }
+    let n = read_from(s, at, 10)?;
+    if n.value < limit { Some(n) } else { None }
 }
 
 // The number at a position, of at most left bytes.
-fn read_from(s: &[u8], at: usize, left: usize) -> Read
+fn read_from(s: &[u8], at: usize, left: usize) -> Option<Number>
     ensures { result ≡ placed at (low64 (number_of left (drop at s.now))) }
 {
     if left == 0 {
-        return Read::Unreadable;
+        return None;
     }
     if s.len() <= at {
-        return Read::Unreadable;
+        return None;
     }
     let b = s[at] as u64;
     if b < 128 {
-        return Read::Value(Number {
+        return Some(Number {
             value: b,
             next: at + 1,
         });
     }
-    match read_from(s, at + 1, left - 1) {
-        Read::Value(n) => Read::Value(Number {
-            value: (n.value % 0x200_0000_0000_0000) * 128 + b % 128,
-            next: n.next,
-        }),
-        Read::Unreadable => Read::Unreadable,
-    }
+    let n = read_from(s, at + 1, left - 1)?;
+    Some(Number {
+        value: (n.value % 0x200_0000_0000_0000) * 128 + b % 128,
+        next: n.next,
+    })
 }
 
 // How many bytes the shortest form of x takes.

@@ -1,11 +1,10 @@
 -- The extension body: a 32-byte id, a count, and fields of a key of two bytes, a length byte and a value.
 -- docs/RULES.md, "Extension body and match".
 -- Assumes nothing.
-use Rattle.std.specs.Prelude.{ℕ, ◌+◌, Bool, not, cond, ◌&&◌, List, [], ◌∷◌, ltb, eqb, length, get_or, take}
+use Rattle.std.specs.Prelude.{ℕ, ◌+◌, Bool, not, cond, ◌&&◌, List, [], ◌∷◌, ltb, eqb, length, get_or, take, Option, Some, None}
 use Rattle.codec.specs.Refusal.{body_short, count_unreadable, field_header_cut, value_long, value_cut, parameter_size, input_long}
 use Rattle.codec.specs.Vlq.{vlq_at}
-use Rattle.codec.specs.declared.vlq.Read.{Read}
-use Rattle.codec.specs.declared.vlq.Read.TheVariants.{Value, Unreadable}
+use Rattle.codec.specs.declared.vlq.Number.{Number}
 use Rattle.voting.specs.Common.{gate}
 use Rattle.extension.specs.declared.section.Parsed.{Parsed}
 use Rattle.extension.specs.declared.body.FieldAt.{FieldAt}
@@ -35,9 +34,9 @@ unfoldable pub read_field : List ℕ → ℕ → Reading Field
 read_field s at = field_reading s (field_at s at)
 
 -- as many fields as were counted, after the count
-unfoldable pub fields_from : List ℕ → Read → Parsed
-fields_from body Unreadable = refused_section count_unreadable
-fields_from body (Value m) = closed m.value m.next (listing (read_field body) m.value m.next)
+unfoldable pub fields_from : List ℕ → Option Number → Parsed
+fields_from body None = refused_section count_unreadable
+fields_from body (Some m) = closed m.value m.next (listing (read_field body) m.value m.next)
 
 -- a body's fields: how many, where they begin and end; bytes after the last are ignored
 unfoldable pub extension_of : List ℕ → Parsed

@@ -1,13 +1,12 @@
 -- Settings updates as they are written, and an update read and written again. docs/RULES.md, "Settings update" and "Writers and rest". What
 -- the writers answer stands in crates/writers/specs/Encode.antt.
 -- Assumes nothing.
-use Rattle.std.specs.Prelude.{ℕ, zero, suc, ◌+◌, ◌<◌, Bool, false, cond, ◌&&◌, ◌||◌, ◌≡◌, List, [], ◌∷◌, ◌++◌, ltb, eqb, ℤ, pos, length, take, drop}
+use Rattle.std.specs.Prelude.{ℕ, zero, suc, ◌+◌, ◌<◌, Bool, false, cond, ◌&&◌, ◌||◌, ◌≡◌, List, [], ◌∷◌, ◌++◌, ltb, eqb, ℤ, pos, length, take, drop, Option, Some, None}
 use Rattle.std.specs.Int.Signed.{lt_z}
 use Rattle.codec.specs.Refusal.{update_unreadable, input_long, status_rule_low}
 use Rattle.codec.specs.Rule.{first_rule, offset_of}
 use Rattle.codec.specs.Vlq.{vlq_at, vlq_bytes}
-use Rattle.codec.specs.declared.vlq.Read.{Read}
-use Rattle.codec.specs.declared.vlq.Read.TheVariants.{Value, Unreadable}
+use Rattle.codec.specs.declared.vlq.Number.{Number}
 use Rattle.extension.specs.declared.update.StatusAt.{StatusAt}
 use Rattle.extension.specs.declared.update.StatusAt.TheVariants.{HasStatus, NoStatus}
 use Rattle.extension.specs.declared.update.Update.{Update}
@@ -77,13 +76,13 @@ all_raw [] = []
 all_raw (x ∷ xs) = x.raw ++ all_raw xs
 
 -- a number that was read at a position stood there in shortest form
-abbrev pub Short : List ℕ → ℕ → Read → Type 0
-Short s at Unreadable = Unit {0}
-Short s at (Value m) = part s at m.next ≡ vlq_bytes m.value
+abbrev pub Short : List ℕ → ℕ → Option Number → Type 0
+Short s at None = Unit {0}
+Short s at (Some m) = part s at m.next ≡ vlq_bytes m.value
 
-abbrev pub next_of : Read → ℕ
-next_of Unreadable = 0
-next_of (Value m) = m.next
+abbrev pub next_of : Option Number → ℕ
+next_of None = 0
+next_of (Some m) = m.next
 
 abbrev pub end_of : StatusAt → ℕ
 end_of (HasStatus x) = x.end

@@ -1,14 +1,13 @@
 -- The boundary of a tally in another order. docs/RULES.md, "Boundary", "In another order". `List.Permᴰ` is the library's rearrangement of
 -- a list: nothing, one element before two rearranged lists, two neighbours exchanged, and one rearrangement after another.
 -- Assumes nothing.
-use Rattle.std.specs.Prelude.{ℕ, ◌≡◌, Bool, false, ℤ, pos, negsuc}
+use Rattle.std.specs.Prelude.{ℕ, ◌≡◌, Bool, false, ℤ, pos, negsuc, None, Some}
 use mathlib.Core.List.{List, [], ◌∷◌, Permᴰ}
 use Rattle.voting.specs.declared.settings.VotingConfig.{VotingConfig}
-use Rattle.voting.specs.declared.table.Value.TheVariants.{Absent, Number}
 use Rattle.voting.specs.declared.table.Table.{Table}
 use Rattle.voting.specs.declared.tally.Entry.{Entry}
 use Rattle.voting.specs.Settings.{settings}
-use Rattle.voting.specs.Table.{slot, fork_entries}
+use Rattle.voting.specs.Table.{fork_entries}
 use Rattle.voting.specs.Order.{Consistent, SameRefusal}
 use Rattle.extension.specs.declared.boundary.Computed.{Computed}
 use Rattle.extension.specs.Boundary.{computed_of}
@@ -31,8 +30,8 @@ InAnyOrder g height t tally vote s r =
 abbrev pub only_first : ℤ → Table
 only_first z =
     record {
-      ordinary = slot (Number z) ∷ slot Absent ∷ slot Absent ∷ slot Absent ∷ slot Absent ∷ slot Absent ∷ slot Absent ∷ slot Absent ∷ slot Absent ∷ [];
-      fork = fork_entries Absent Absent (Number (pos 1));
+      ordinary = Some z ∷ None ∷ None ∷ None ∷ None ∷ None ∷ None ∷ None ∷ None ∷ [];
+      fork = fork_entries None None (Some (pos 1));
     }
 
 -- one vote for an id, and the boundary at L = 1, where it is enough; there is no update

@@ -1,13 +1,12 @@
 -- The parameters of a body, and the match of a computed table against them. docs/RULES.md, "Extension body and match".
 -- Assumes nothing.
-use Rattle.std.specs.Prelude.{ℕ, zero, suc, ◌<◌, ◌≡◌, ◌⊎◌, Bool, true, false, cond, ◌&&◌, List, [], ◌∷◌, eqb, ℤ, length, get_or, set, replicate}
+use Rattle.std.specs.Prelude.{ℕ, zero, suc, ◌<◌, ◌≡◌, ◌⊎◌, Bool, true, false, cond, ◌&&◌, List, [], ◌∷◌, eqb, ℤ, length, get_or, set, replicate, None, Some}
 use Rattle.codec.specs.Refusal.{entry_differs}
 use Rattle.codec.specs.Signed.{signed_of}
 use Rattle.codec.specs.BigEndian.{big_endian}
 use Rattle.voting.specs.Common.{eq_z}
-use Rattle.voting.specs.Table.{lookup, slot}
-use Rattle.voting.specs.declared.table.Value.{Value}
-use Rattle.voting.specs.declared.table.Value.TheVariants.{Absent, Number}
+use Rattle.voting.specs.Table.{lookup}
+use Rattle.voting.specs.Value.{Value}
 use Rattle.voting.specs.declared.table.Table.{Table}
 use Rattle.extension.specs.declared.section.Parsed.{Parsed}
 use Rattle.extension.specs.declared.parameters.ParameterMap.{ParameterMap}
@@ -18,17 +17,17 @@ use Rattle.extension.specs.Body.{Field, parameter_key, read_field, check_body}
 
 -- one entry for each id byte, all absent
 unfoldable pub no_parameters : ParameterMap
-no_parameters = record { entries = replicate 256 (slot Absent) }
+no_parameters = record { entries = replicate 256 None }
 
 unfoldable pub entry_of : ParameterMap → ℕ → Value
-entry_of m id = (get_or m.entries id (slot Absent)).value
+entry_of m id = get_or m.entries id None
 
 abbrev pub store : ParameterMap → ℕ → Value → ParameterMap
-store m id v = record { entries = set m.entries id (slot v) }
+store m id v = record { entries = set m.entries id v }
 
 -- four bytes are a signed number of 32 bits, the most significant byte first
 unfoldable pub number_in : List ℕ → Value
-number_in bytes = Number (signed_of 32 (big_endian bytes))
+number_in bytes = Some (signed_of 32 (big_endian bytes))
 
 -- a parameter is stored under the second byte of its key
 unfoldable pub taken : Field → ParameterMap → ParameterMap
@@ -48,9 +47,9 @@ parameters_of body = read_parameters body (check_body body)
 
 -- a computed entry stands, equal, among the parameters; an absent one asks nothing
 unfoldable pub agrees : Value → Value → Bool
-agrees Absent found = true
-agrees (Number x) Absent = false
-agrees (Number x) (Number y) = eq_z x y
+agrees None found = true
+agrees (Some x) None = false
+agrees (Some x) (Some y) = eq_z x y
 
 -- the ids of a table's twelve entries, in rising order
 unfoldable pub table_ids : List ℕ
@@ -71,7 +70,7 @@ check_parameters t m = matched (first_differing t m table_ids)
 
 -- What 15 carries, without the order of a list. An entry stands: if the table has a number under the id, the parameters have the same there.
 abbrev pub Stands : Table → ParameterMap → ℕ → Type 0
-Stands t m id = (x : ℤ) → lookup t id ≡ Number x → entry_of m id ≡ Number x
+Stands t m id = (x : ℤ) → lookup t id ≡ Some x → entry_of m id ≡ Some x
 
 -- the least id, by number, whose entry is missing or different
 abbrev pub LeastDiffering : Table → ParameterMap → ℕ → Type 0

@@ -1,11 +1,10 @@
 -- A settings update: rules to disable, and statuses of rules. docs/RULES.md, "Settings update".
 -- Assumes nothing.
-use Rattle.std.specs.Prelude.{ℕ, ◌+◌, ◌^◌, Bool, cond, List, [], ltb, eqb, ℤ, length, get_or}
+use Rattle.std.specs.Prelude.{ℕ, ◌+◌, ◌^◌, Bool, cond, List, [], ltb, eqb, ℤ, length, get_or, Option, Some, None}
 use Rattle.codec.specs.Refusal.{update_unreadable, mandatory_disabled, input_long}
 use Rattle.codec.specs.Vlq.{vlq_at}
 use Rattle.codec.specs.Rule.{rule_of}
-use Rattle.codec.specs.declared.vlq.Read.{Read}
-use Rattle.codec.specs.declared.vlq.Read.TheVariants.{Value, Unreadable}
+use Rattle.codec.specs.declared.vlq.Number.{Number}
 use Rattle.extension.specs.declared.section.Section.{Section}
 use Rattle.extension.specs.declared.section.Parsed.{Parsed}
 use Rattle.extension.specs.declared.update.RuleAt.{RuleAt}
@@ -19,9 +18,9 @@ use Rattle.extension.specs.Section.{Reading, got, bad, listing, closed, section_
 use Rattle.extension.specs.Mandatory.{mandatory_rule}
 
 -- the rule at a position: a number of 16 bits
-unfoldable pub placed_rule : Read → RuleAt
-placed_rule Unreadable = NoRule update_unreadable
-placed_rule (Value m) = HasRule (record { id = m.value; next = m.next })
+unfoldable pub placed_rule : Option Number → RuleAt
+placed_rule None = NoRule update_unreadable
+placed_rule (Some m) = HasRule (record { id = m.value; next = m.next })
 
 unfoldable pub rule_at : List ℕ → ℕ → RuleAt
 rule_at s at = placed_rule (vlq_at 16 s at)
@@ -40,9 +39,9 @@ pub record Status : Type 0 where
   pub raw : List ℕ
 
 -- the status at a position: an offset, a size, a code byte, and that many raw bytes
-unfoldable pub placed_status : List ℕ → ℤ → Read → StatusAt
-placed_status s rule Unreadable = NoStatus update_unreadable
-placed_status s rule (Value m) =
+unfoldable pub placed_status : List ℕ → ℤ → Option Number → StatusAt
+placed_status s rule None = NoStatus update_unreadable
+placed_status s rule (Some m) =
     cond (ltb (length s) (m.next + 1 + m.value)) (NoStatus update_unreadable)
     (HasStatus
     (record {
@@ -52,9 +51,9 @@ placed_status s rule (Value m) =
       end = m.next + 1 + m.value;
     }))
 
-unfoldable pub offset_then : List ℕ → Read → StatusAt
-offset_then s Unreadable = NoStatus update_unreadable
-offset_then s (Value m) = placed_status s (rule_of m.value) (vlq_at 16 s m.next)
+unfoldable pub offset_then : List ℕ → Option Number → StatusAt
+offset_then s None = NoStatus update_unreadable
+offset_then s (Some m) = placed_status s (rule_of m.value) (vlq_at 16 s m.next)
 
 unfoldable pub status_at : List ℕ → ℕ → StatusAt
 status_at s at = offset_then s (vlq_at 16 s at)
@@ -86,9 +85,9 @@ unfoldable pub count_in : ℕ → ℕ
 count_in n = cond (ltb n (2 ^ 31)) n 0
 
 -- as many items as were counted, after the count
-unfoldable pub items_from : {A : Type 0} → (ℕ → Reading A) → Read → Parsed
-items_from read Unreadable = refused_section update_unreadable
-items_from read (Value m) = closed (count_in m.value) m.next (listing read (count_in m.value) m.next)
+unfoldable pub items_from : {A : Type 0} → (ℕ → Reading A) → Option Number → Parsed
+items_from read None = refused_section update_unreadable
+items_from read (Some m) = closed (count_in m.value) m.next (listing read (count_in m.value) m.next)
 
 abbrev pub no_update : Update
 no_update = record { rules = no_section; statuses = no_section }

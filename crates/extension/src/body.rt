@@ -6,7 +6,6 @@ ghost use Rattle.extension.specs.Body.{field_at, read_field, extension_of, heade
 
 use crate::section;
 use crate::section::{Parsed, Section, Span};
-use codec::vlq::Read;
 use codec::{refusal, vlq};
 
 // The most bytes that a body or an update has.
@@ -46,8 +45,8 @@ pub fn parse_extension_bytes(body: &[u8]) -> Parsed
         return section::refused(refusal::BODY_SHORT);
     }
     match vlq::read_u32(body, HEADER_ID_SIZE) {
-        Read::Value(m) => fields_section(body, m.value as u32, m.next),
-        Read::Unreadable => section::refused(refusal::COUNT_UNREADABLE),
+        Some(m) => fields_section(body, m.value as u32, m.next),
+        None => section::refused(refusal::COUNT_UNREADABLE),
     }
 }
 

@@ -64,7 +64,7 @@ pub fn refused(refusal: u8, table: Table) -> Computed
             opened: false,
             closed: false,
             rose: false,
-            total: Value::Absent,
+            total: None,
         },
         activated: update::no_update(),
     }

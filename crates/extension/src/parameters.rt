@@ -8,12 +8,12 @@ use crate::body;
 use crate::body::{FieldAt, FieldPlace};
 use crate::section::Section;
 use codec::{big_endian, refusal};
-use voting::table::{Slot, Table, Value};
+use voting::table::{Table, Value};
 
 // One entry for each id byte.
 #[derive(Clone, Copy)]
 pub struct ParameterMap {
-    pub entries: [Slot; 256],
+    pub entries: [Value; 256],
 }
 
 // A refusal's number, or 0; refused, every entry is absent.
@@ -37,16 +37,13 @@ impl ParameterMap {
     pub fn get(self, id: u8) -> Value
         ensures { result ≡ entry_of self id }
     {
-        let k = id as usize;
-        let s = self.entries[k];
-        s.value
+        self.entries[id as usize]
     }
 
     pub fn with(mut self, id: u8, value: Value) -> ParameterMap
         ensures { result ≡ store self id value }
     {
-        let k = id as usize;
-        self.entries[k] = Slot { value };
+        self.entries[id as usize] = value;
         self
     }
 }
@@ -65,10 +62,9 @@ pub fn parse_parameters_from_kv(body: &[u8]) -> Parameters
 pub fn no_parameters() -> ParameterMap
     ensures { result ≡ no_parameters }
 {
-    let s = Slot {
-        value: Value::Absent,
-    };
-    ParameterMap { entries: [s; 256] }
+    ParameterMap {
+        entries: [None; 256],
+    }
 }
 
 fn parameters_in(body: &[u8], fields: Section) -> ParameterMap
@@ -112,7 +108,7 @@ fn take_field(m: ParameterMap, key0: u8, key1: u8, v: &[u8]) -> ParameterMap
 pub fn number_in(a: u8, b: u8, c: u8, d: u8) -> Value
     ensures { result ≡ number_in (a ∷ b ∷ c ∷ d ∷ []) }
 {
-    Value::Number(big_endian::i32_from_be_bytes([a, b, c, d]))
+    Some(big_endian::i32_from_be_bytes([a, b, c, d]))
 }
 
 // 15 where a computed entry is missing or different among the parameters, with the least such id; others are not looked at.
@@ -151,10 +147,10 @@ pub fn differs(computed: Value, found: Value) -> bool
     ensures { result ≡ not (agrees computed found) }
 {
     match computed {
-        Value::Absent => false,
-        Value::Number(x) => match found {
-            Value::Absent => true,
-            Value::Number(y) => x != y,
+        None => false,
+        Some(x) => match found {
+            None => true,
+            Some(y) => x != y,
         },
     }
 }

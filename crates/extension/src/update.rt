@@ -10,7 +10,6 @@ use crate::body::INPUT_MOST;
 use crate::section::{Parsed, Section};
 use crate::{mandatory, section};
 use codec::rule::{RuleId, WireOffset};
-use codec::vlq::Read;
 use codec::{refusal, vlq};
 
 // A rule to disable, and the position after it. On the wire it is its id and no offset.
@@ -162,11 +161,11 @@ fn read_rule(bytes: &[u8], at: usize) -> RuleAt
     ensures { result ≡ rule_at bytes.now at }
 {
     match vlq::read_u16(bytes, at) {
-        Read::Value(m) => RuleAt::HasRule(RulePlace {
+        Some(m) => RuleAt::HasRule(RulePlace {
             id: m.value as u16,
             next: m.next,
         }),
-        Read::Unreadable => RuleAt::NoRule(refusal::UPDATE_UNREADABLE),
+        None => RuleAt::NoRule(refusal::UPDATE_UNREADABLE),
     }
 }
 
@@ -175,11 +174,11 @@ fn read_status(bytes: &[u8], at: usize) -> StatusAt
     ensures { result ≡ status_at bytes.now at }
 {
     match vlq::read_u16(bytes, at) {
-        Read::Value(m) => {
+        Some(m) => {
             let offset = WireOffset(m.value as u16);
             read_sized(bytes, offset.rule_id(), m.next)
         }
-        Read::Unreadable => StatusAt::NoStatus(refusal::UPDATE_UNREADABLE),
+        None => StatusAt::NoStatus(refusal::UPDATE_UNREADABLE),
     }
 }
 
@@ -188,7 +187,7 @@ fn read_sized(bytes: &[u8], rule: RuleId, at: usize) -> StatusAt
     ensures { result ≡ placed_status bytes.now rule.0 (vlq_at 16 bytes.now at) }
 {
     match vlq::read_u16(bytes, at) {
-        Read::Value(m) => {
+        Some(m) => {
             let next = m.next;
             let room = bytes.len() - next;
             let size = m.value as usize;
@@ -202,7 +201,7 @@ fn read_sized(bytes: &[u8], rule: RuleId, at: usize) -> StatusAt
                 end: next + 1 + size,
             })
         }
-        Read::Unreadable => StatusAt::NoStatus(refusal::UPDATE_UNREADABLE),
+        None => StatusAt::NoStatus(refusal::UPDATE_UNREADABLE),
     }
 }
 
@@ -218,8 +217,8 @@ fn rules_from(bytes: &[u8], rule: u16) -> Rules
     ensures { RulesAre bytes.now rule (items_from (read_rule bytes.now) (vlq_at 32 bytes.now 0)) result }
 {
     match vlq::read_u32(bytes, 0) {
-        Read::Value(m) => rules_section(bytes, rule, count_in(m.value), m.next),
-        Read::Unreadable => no_rules(refusal::UPDATE_UNREADABLE),
+        Some(m) => rules_section(bytes, rule, count_in(m.value), m.next),
+        None => no_rules(refusal::UPDATE_UNREADABLE),
     }
 }
 
@@ -239,8 +238,8 @@ fn statuses_from(bytes: &[u8], at: usize) -> Parsed
     ensures { result ≡ items_from (read_status bytes.now) (vlq_at 32 bytes.now at) }
 {
     match vlq::read_u32(bytes, at) {
-        Read::Value(m) => statuses_section(bytes, count_in(m.value), m.next),
-        Read::Unreadable => section::refused(refusal::UPDATE_UNREADABLE),
+        Some(m) => statuses_section(bytes, count_in(m.value), m.next),
+        None => section::refused(refusal::UPDATE_UNREADABLE),
     }
 }
 

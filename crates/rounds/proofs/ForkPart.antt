@@ -8,7 +8,7 @@ use borrow.Author.Tests.{ltb-true, ltb-false, leb-true, leb-false, eqb-true, lt-
 use lib.Dec.{leb, ltb, eqb}
 use lib.IntN.{pos}
 use Rattle.voting.specs.declared.settings.VotingConfig.{VotingConfig}
-use Rattle.voting.specs.declared.table.Value.TheVariants.{Absent, Number}
+use Rattle.std.specs.Prelude.{None, Some}
 use Rattle.voting.specs.declared.table.Fork.{Fork}
 use Rattle.voting.specs.declared.fork.Phase.{Phase}
 use Rattle.voting.specs.declared.fork.Forked.{Forked}
@@ -50,9 +50,9 @@ abbrev entries_after : (late early voting rising vote approved at : Bool) → �
 entries_after late early voting rising vote approved at h T s n v =
     let restart = vote && (late || (early && not approved)) in
     fork_entries
-    (cond voting (Number (pos T)) (cond restart (Number (pos 0)) (cond (early && not approved) Absent (cond (late && approved) Absent (Number (pos n))))))
-    (cond restart (Number (wrapped 32 (pos h))) (cond (early && not approved) Absent (cond (late && approved) Absent (Number (pos s)))))
-    (Number (pos (cond (at && eqb (cond (rising && approved) (v + 1) v) 1) 2 (cond (rising && approved) (v + 1) v))))
+    (cond voting (Some (pos T)) (cond restart (Some (pos 0)) (cond (early && not approved) None (cond (late && approved) None (Some (pos n))))))
+    (cond restart (Some (wrapped 32 (pos h))) (cond (early && not approved) None (cond (late && approved) None (Some (pos s)))))
+    (Some (pos (cond (at && eqb (cond (rising && approved) (v + 1) v) 1) 2 (cond (rising && approved) (v + 1) v))))
 
 module _ (h s n T v : ℕ) (at : Bool) (low : h < 2 ^ 31) where
   -- k at most V
@@ -133,7 +133,7 @@ module _ (g : VotingConfig) (sound : Sound g) (S j n c v : ℕ) (vote : Bool)
   after_is =
       ap (λ (x : ForkPart). x.fork) part-is
       ∙ ap (λ (f : Forked). (finished g (S + voting_length g * j) (entries_for (since S n) v) (round_steps phase_here vote approved (pos (c + n))) f).fork)
-      (steps-are phase_here vote approved (pos (c + n)) (S + voting_length g * j) (Number (pos n)) (Number (pos S)) (pos v))
+      (steps-are phase_here vote approved (pos (c + n)) (S + voting_length g * j) (Some (pos n)) (Some (pos S)) (pos v))
       ∙ rw (version-small (eqb j (vote_epochs g + activation_epochs g) && approved) forcing v small)
 
   phase : entries_after (eqb j (vote_epochs g + activation_epochs g + 1)) (eqb j (vote_epochs g + 1)) (leb j (vote_epochs g)) (eqb j (vote_epochs g + activation_epochs g)) vote (ltb (fork_limit g) (c + n)) forcing (S + voting_length g * j) (c + n) S n v
@@ -189,14 +189,14 @@ module _ (g : VotingConfig) (sound : Sound g) (S j n c v : ℕ) (vote : Bool)
 -- and with no round open
 idle-is : (g : VotingConfig) → Sound g → (h c v : ℕ) (vote : Bool) → h % voting_length g ≡ 0
     → fork_part g h vote c (entries_for idle v)
-    ≡ finished g h (entries_for idle v) (record { opened = vote && true; closed = false; rose = false; total = Absent }) (record { refusal = 0; fork = fork_entries (cond (vote && true) (Number (pos 0)) Absent) (cond (vote && true) (Number (wrapped 32 (pos h))) Absent) (Number (pos v)) })
+    ≡ finished g h (entries_for idle v) (record { opened = vote && true; closed = false; rose = false; total = None }) (record { refusal = 0; fork = fork_entries (cond (vote && true) (Some (pos 0)) None) (cond (vote && true) (Some (wrapped 32 (pos h))) None) (Some (pos v)) })
 unfolding fork_part by_start opening
 idle-is g sound h c v vote mult =
     rw (
       ne_eqb (voting_length g) 0 (λ q. let p = sound.length-positive in omega arith),
       sound.moderate,
       eq-eqb (h % voting_length g) 0 mult,
-      begun-is (vote && true) h Absent Absent (Number (pos v)),
+      begun-is (vote && true) h None None (Some (pos v)),
     )
 
 pub fork-idle : (g : VotingConfig) → Sound g → (h c v : ℕ) (vote : Bool) → h < 2 ^ 31 → h % voting_length g ≡ 0 → v + 1 < 2 ^ 31
@@ -209,7 +209,7 @@ fork-idle g sound h c v true low mult small =
 
 -- a fork vote in the epochs V to V + A of a round is barred
 bars : (g : VotingConfig) → Sound g → (S j n : ℕ) → vote_epochs g ≤ j → j < vote_epochs g + activation_epochs g + 1
-    → (vote_epochs g < j → fork_limit g < n) → check_round g (S + voting_length g * j) (Number (pos S)) (Number (pos n)) ≡ Barred
+    → (vote_epochs g < j → fork_limit g < n) → check_round g (S + voting_length g * j) (Some (pos S)) (Some (pos n)) ≡ Barred
 unfolding check_round barred between epochs_after soft_fork_approved
 bars g sound S j n lo hi late =
     simp (leb-scaled (voting_length g) S sound.length-positive, ltb-scaled (voting_length g) S sound.length-positive, le-leb (vote_epochs g) j lo)
@@ -224,7 +224,7 @@ bars g sound S j n lo hi late =
     simp (ap', lt-ltb j (vote_epochs g + 1) here)))
 
 pub silent : (g : VotingConfig) → Sound g → (S j n : ℕ) (vote : Bool)
-    → (vote ≡ true → check_round g (S + voting_length g * j) (Number (pos S)) (Number (pos n)) ≡ Allowed)
+    → (vote ≡ true → check_round g (S + voting_length g * j) (Some (pos S)) (Some (pos n)) ≡ Allowed)
     → vote_epochs g ≤ j → j < vote_epochs g + activation_epochs g + 1 → (vote_epochs g < j → fork_limit g < n) → vote ≡ false
 silent g sound S j n false e lo hi late = refl
 silent g sound S j n true e lo hi late = let a = e refl in let b = bars g sound S j n lo hi late in cc

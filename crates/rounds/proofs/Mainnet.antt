@@ -8,7 +8,7 @@ use native.Mathlib.Omega.{arith}
 use lib.Dec.{lit<}
 use lib.IntN.{pos}
 use lib.ListN.{length}
-use Rattle.voting.specs.declared.table.Value.TheVariants.{Number}
+use Rattle.std.specs.Prelude.{Some}
 use Rattle.voting.specs.declared.table.Fork.{Fork}
 use Rattle.voting.specs.Settings.{mainnet, fork_limit, settings_large}
 use Rattle.rounds.specs.Epochs.{boundary_votes, forced_version}
@@ -43,7 +43,7 @@ module _ (m : Replay) (lawful : Lawful mainnet m) where
   boundary-in-numbers h vote old new b =
       record {
         opens = b.opens;
-        stays = λ away v is. b.stays (λ S q at. away S q (at ∙ (let e : S + 1024 * 64 ≡ S + 64 * 1024 = omega arith in e))) v is ∙ ap (λ (k : ℕ). Number (pos k)) (forced-is h v);
+        stays = λ away v is. b.stays (λ S q at. away S q (at ∙ (let e : S + 1024 * 64 ≡ S + 64 * 1024 = omega arith in e))) v is ∙ ap (λ (k : ℕ). Some (pos k)) (forced-is h v);
       }
 
   life-in-numbers : (S : ℕ) (e : List ℕ) (t : m.State) (rs : List m.Record) → m.next (run m t rs) ≡ S + 1024 + 1024 * length (epochs m t rs) → All.Life mainnet m S e t rs → Main.Life m S e t rs
@@ -54,7 +54,7 @@ module _ (m : Replay) (lawful : Lawful mainnet m) where
         closes = λ h is le. let s = span-is (e ∷ epochs m t rs) in l.closes (omega arith);
         rises = λ r u q is v w.
             let x = (lawful (run m t rs) r u q).height in
-            l.rises r u q (omega arith) v w ∙ ap (λ (k : ℕ). Number (pos k)) (forced-is (m.height r) (cond (won mainnet (e ∷ epochs m t rs)) (v + 1) v) ∙ ap (λ (b : Bool). forced (m.height r) (cond b (v + 1) v)) (won-is (e ∷ epochs m t rs)));
+            l.rises r u q (omega arith) v w ∙ ap (λ (k : ℕ). Some (pos k)) (forced-is (m.height r) (cond (won mainnet (e ∷ epochs m t rs)) (v + 1) v) ∙ ap (λ (b : Bool). forced (m.height r) (cond b (v + 1) v)) (won-is (e ∷ epochs m t rs)));
       }
 
   -- the theorem on mainnet

@@ -12,7 +12,7 @@ use lib.Dec.{leb, ltb, eqb}
 use lib.IntN.{pos}
 use lib.ListN.{length}
 use Rattle.voting.specs.declared.settings.VotingConfig.{VotingConfig}
-use Rattle.voting.specs.declared.table.Value.TheVariants.{Number}
+use Rattle.std.specs.Prelude.{Some}
 use Rattle.voting.specs.declared.table.Fork.{Fork}
 use Rattle.voting.specs.Settings.{voting_length, vote_epochs, activation_epochs, fork_limit}
 use Rattle.rounds.specs.Epochs.{boundary_votes, counted, last_of, forced_version}
@@ -67,24 +67,24 @@ module _ (g : VotingConfig) (m : Replay) (lawful : Lawful g m) where
 
 -- ---- a boundary
 
-number : (a b : ℕ) → Number (pos a) ≡ Number (pos b) → a ≡ b
+number : (a b : ℕ) → Some (pos a) ≡ Some (pos b) → a ≡ b
 number a b e = cc
 
-version-is : (r : Round) (v : ℕ) → (entries_for r v).version ≡ Number (pos v)
+version-is : (r : Round) (v : ℕ) → (entries_for r v).version ≡ Some (pos v)
 version-is idle v = refl
 version-is (since s n) v = refl
 
 -- a version that is known
 stays_by : (g : VotingConfig) (h : ℕ) (r r' : Round) (v w : ℕ) → w ≡ forced_version g h v
-    → (u : ℕ) → (entries_for r v).version ≡ Number (pos u) → (entries_for r' w).version ≡ Number (pos (forced_version g h u))
+    → (u : ℕ) → (entries_for r v).version ≡ Some (pos u) → (entries_for r' w).version ≡ Some (pos (forced_version g h u))
 stays_by g h r r' v w q u e =
     let same : v ≡ u = number v u (sym (version-is r v) ∙ e) in
-    version-is r' w ∙ ap (λ (k : ℕ). Number (pos k)) (q ∙ ap (forced_version g h) same)
+    version-is r' w ∙ ap (λ (k : ℕ). Some (pos k)) (q ∙ ap (forced_version g h) same)
 
 -- no round is open before it, or the open one closes
-opens-new : (vote : Bool) (h v : ℕ) (old : Fork) → ((S : ℕ) → old.start ≡ Number (pos S) → S < h)
-    → ((entries_for (book_open h vote idle) v).start ≡ Number (pos h))
-    ↔ ((vote ≡ true) × ((S : ℕ) → old.start ≡ Number (pos S) → (entries_for (book_open h vote idle) v).start ≡ Number (pos S) → ⊥))
+opens-new : (vote : Bool) (h v : ℕ) (old : Fork) → ((S : ℕ) → old.start ≡ Some (pos S) → S < h)
+    → ((entries_for (book_open h vote idle) v).start ≡ Some (pos h))
+    ↔ ((vote ≡ true) × ((S : ℕ) → old.start ≡ Some (pos S) → (entries_for (book_open h vote idle) v).start ≡ Some (pos S) → ⊥))
 unfolding book_open
 opens-new true h v old less =
     (λ e. (refl, λ S o n. let q : h ≡ S = number h S n in let l = less S o in omega arith), λ k. refl)
@@ -92,8 +92,8 @@ opens-new false h v old less = (λ e. absurd (absent-number (pos h) e), λ k. ab
 
 -- it stays open
 opens_not : (vote : Bool) (S h n v w : ℕ) → S < h
-    → ((entries_for (since S n) v).start ≡ Number (pos h))
-    ↔ ((vote ≡ true) × ((S' : ℕ) → (entries_for (since S w) v).start ≡ Number (pos S') → (entries_for (since S n) v).start ≡ Number (pos S') → ⊥))
+    → ((entries_for (since S n) v).start ≡ Some (pos h))
+    ↔ ((vote ≡ true) × ((S' : ℕ) → (entries_for (since S w) v).start ≡ Some (pos S') → (entries_for (since S n) v).start ≡ Some (pos S') → ⊥))
 opens_not vote S h n v w less = (λ e. absurd (let q = number S h e in omega arith), λ k. absurd (k.1 S refl refl))
 
 bound-idle : (g : VotingConfig) (vote : Bool) (h v : ℕ) → Boundary g h vote (entries_for idle v) (entries_for (book_open h vote idle) (forced_version g h v))
@@ -105,7 +105,7 @@ bound-idle g vote h v =
 
 module _ (g : VotingConfig) (sound : Sound g) (vote : Bool) (S j n c v : ℕ) (positive : 0 < j) where
   -- not at its rise
-  not-rising : ((S' : ℕ) → Number (pos S) ≡ Number (pos S') → S + voting_length g * j ≡ S' + voting_length g * (vote_epochs g + activation_epochs g) → ⊥)
+  not-rising : ((S' : ℕ) → Some (pos S) ≡ Some (pos S') → S + voting_length g * j ≡ S' + voting_length g * (vote_epochs g + activation_epochs g) → ⊥)
       → eqb j (vote_epochs g + activation_epochs g) ≡ false
   not-rising away = ne_eqb j (vote_epochs g + activation_epochs g) (λ q. away S refl (ap (λ (k : ℕ). S + voting_length g * k) q))
 
@@ -148,20 +148,20 @@ bound g sound vote (since S n) v h c o = bound-since g sound vote S n v h c o
 -- ---- a round's life
 
 -- where the new table has a round that starts here, it has no votes yet
-opened-fresh : (h v : ℕ) (vote : Bool) → (entries_for (book_open h vote idle) v).start ≡ Number (pos h) → book_open h vote idle ≡ since h 0
+opened-fresh : (h v : ℕ) (vote : Bool) → (entries_for (book_open h vote idle) v).start ≡ Some (pos h) → book_open h vote idle ≡ since h 0
 unfolding book_open
 opened-fresh h v true e = refl
 opened-fresh h v false e = absurd (absent-number (pos h) e)
 
 fresh_at : (S n v h : ℕ) (vote t : Bool) → S < h
-    → (entries_for (book_open h vote (cond t idle (since S n))) v).start ≡ Number (pos h)
+    → (entries_for (book_open h vote (cond t idle (since S n))) v).start ≡ Some (pos h)
     → book_open h vote (cond t idle (since S n)) ≡ since h 0
 unfolding book_open
 fresh_at S n v h vote true less e = opened-fresh h v vote e
 fresh_at S n v h vote false less e = absurd (let q = number S h e in omega arith)
 
 fresh-since : (g : VotingConfig) → Sound g → (vote : Bool) (S n v h c w : ℕ) → Open g S n v h c
-    → (entries_for (round' g h vote c (since S n)) w).start ≡ Number (pos h) → round' g h vote c (since S n) ≡ since h 0
+    → (entries_for (round' g h vote c (since S n)) w).start ≡ Some (pos h) → round' g h vote c (since S n) ≡ since h 0
 fresh-since g sound vote S n v h c w o =
     rw o.is_at
     (rw (add_at g sound S o.j n c o.quiet, close_at g sound S o.j (c + n))
@@ -170,12 +170,12 @@ fresh-since g sound vote S n v h c w o =
     (past g sound S o.j o.j_pos)))
 
 fresh : (g : VotingConfig) → Sound g → (vote : Bool) (r : Round) (v h c w : ℕ) → InvR g r v h c
-    → (entries_for (round' g h vote c r) w).start ≡ Number (pos h) → round' g h vote c r ≡ since h 0
+    → (entries_for (round' g h vote c r) w).start ≡ Some (pos h) → round' g h vote c r ≡ since h 0
 unfolding book_add book_close
 fresh g sound vote idle v h c w i e = opened-fresh h w vote e
 fresh g sound vote (since S n) v h c w o e = fresh-since g sound vote S n v h c w o e
 
-later-start : (S : ℕ) (r : Round) (v : ℕ) → Later S r → (entries_for r v).start ≡ Number (pos S) → ⊥
+later-start : (S : ℕ) (r : Round) (v : ℕ) → Later S r → (entries_for r v).start ≡ Some (pos S) → ⊥
 later-start S idle v k e = absent-number (pos S) e
 later-start S (since s n) v k e = let q = number s S e in omega arith
 
@@ -312,8 +312,8 @@ module _ (g : VotingConfig) (sound : Sound g) (m : Replay) (lawful : Lawful g m)
         ∙ ap (λ (t : Bool). cond t (v + 1) v) (sym (lost at le)))
 
     rising : (r : m.Record) (u : m.State) → m.step (run m t rs) r ≡ accepted u → suc (length since-then) ≡ vote_epochs g + activation_epochs g
-        → (v : ℕ) → (m.fork (run m t rs)).version ≡ Number (pos v)
-        → (m.fork u).version ≡ Number (pos (forced_version g (m.height r) (cond (won g (e ∷ since-then)) (v + 1) v)))
+        → (v : ℕ) → (m.fork (run m t rs)).version ≡ Some (pos v)
+        → (m.fork u).version ≡ Some (pos (forced_version g (m.height r) (cond (won g (e ∷ since-then)) (v + 1) v)))
     unfolding book_step book_take
     rising r u q at v is-v =
         let x = lawful (run m t rs) r u q in
@@ -326,7 +326,7 @@ module _ (g : VotingConfig) (sound : Sound g) (m : Replay) (lawful : Lawful g m)
         in
         ap (λ (f : Fork). f.version) k.table
         ∙ version-is (round' g (m.height r) (boundary_votes (m.votes r)) (counted now-book.before) now-book.round) (version' g (m.height r) (counted now-book.before) now-book.round now-book.version)
-        ∙ ap (λ (a : ℕ). Number (pos (forced_version g (m.height r) a))) won-or-not
+        ∙ ap (λ (a : ℕ). Some (pos (forced_version g (m.height r) a))) won-or-not
 
     life-told : Life g m S e t rs
     life-told =
@@ -337,7 +337,7 @@ module _ (g : VotingConfig) (sound : Sound g) (m : Replay) (lawful : Lawful g m)
         }
 
   life-step : (s : m.State) (b : Book) → InvS g m s b → (r : m.Record) (t : m.State) → m.step s r ≡ accepted t
-      → (m.fork t).start ≡ Number (pos (m.height r)) → (rs : List m.Record) → Life g m (m.height r) (m.votes r) t rs
+      → (m.fork t).start ≡ Some (pos (m.height r)) → (rs : List m.Record) → Life g m (m.height r) (m.votes r) t rs
   unfolding book_step book_take
   life-step s b i r t q opens rs =
       let x = lawful s r t q in

@@ -9,7 +9,7 @@ use native.Mathlib.Nat.{add-mod_right}
 use lib.IntN.{pos}
 use lib.ListN.{length}
 use Rattle.voting.specs.declared.settings.VotingConfig.{VotingConfig}
-use Rattle.voting.specs.declared.table.Value.TheVariants.{Number}
+use Rattle.std.specs.Prelude.{Some}
 use Rattle.voting.specs.declared.table.Fork.{Fork}
 use Rattle.voting.specs.declared.fork.ForkVote.TheVariants.{Allowed}
 use Rattle.voting.specs.Settings.{voting_length, vote_epochs, activation_epochs, fork_limit}
@@ -57,7 +57,7 @@ module _ (g : VotingConfig) (sound : Sound g) (c : ℕ) (few : c ≤ voting_leng
   taken_at : (S n v j : ℕ) → n + S + voting_length g ≤ S + voting_length g * j → S + voting_length g * j + voting_length g ≤ 2 ^ 31
       → j ≤ vote_epochs g + activation_epochs g + 1 → (vote_epochs g + 1 < j → fork_limit g < n) → (vote_epochs g < j → c ≡ 0)
       → (j ≤ vote_epochs g + activation_epochs g → 2 * v ≤ 510 + S) → 2 * v ≤ 512 + S
-      → (boundary_votes xs ≡ true → check_round g (S + voting_length g * j) (Number (pos S)) (Number (pos n)) ≡ Allowed)
+      → (boundary_votes xs ≡ true → check_round g (S + voting_length g * j) (Some (pos S)) (Some (pos n)) ≡ Allowed)
       → Taken g xs c (since S n) v (S + voting_length g * j)
   taken_at S n v j room top last late quiet low high check =
       let p = sound.length-positive in (
@@ -69,11 +69,11 @@ module _ (g : VotingConfig) (sound : Sound g) (c : ℕ) (few : c ≤ voting_leng
       )
 
   taken-open : (S n v h : ℕ) → Open g S n v h c → h + voting_length g ≤ 2 ^ 31
-      → (boundary_votes xs ≡ true → check_round g h (Number (pos S)) (Number (pos n)) ≡ Allowed) → Taken g xs c (since S n) v h
+      → (boundary_votes xs ≡ true → check_round g h (Some (pos S)) (Some (pos n)) ≡ Allowed) → Taken g xs c (since S n) v h
   taken-open S n v h o top check =
       subst
       (λ (m : ℕ).
-      n + S + voting_length g ≤ m → m + voting_length g ≤ 2 ^ 31 → (boundary_votes xs ≡ true → check_round g m (Number (pos S)) (Number (pos n)) ≡ Allowed)
+      n + S + voting_length g ≤ m → m + voting_length g ≤ 2 ^ 31 → (boundary_votes xs ≡ true → check_round g m (Some (pos S)) (Some (pos n)) ≡ Allowed)
       → Taken g xs c (since S n) v m)
       (sym o.is_at)
       (λ room top check. taken_at S n v o.j room top o.last o.late o.quiet o.low o.high check)

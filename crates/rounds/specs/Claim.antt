@@ -1,8 +1,7 @@
 -- What is promised of the rounds over every list of records, accepted and refused ones mixed. docs/RULES.md, "Replay".
 -- Assumes nothing.
-use Rattle.std.specs.Prelude.{ℕ, zero, suc, ◌+◌, ◌*◌, ◌%◌, ◌<◌, ◌≤◌, min, ◌≡◌, ◌↔◌, Bool, true, false, cond, List, [], ◌∷◌, ltb, pos, length}
+use Rattle.std.specs.Prelude.{ℕ, zero, suc, ◌+◌, ◌*◌, ◌%◌, ◌<◌, ◌≤◌, min, ◌≡◌, ◌↔◌, Bool, true, false, cond, List, [], ◌∷◌, ltb, pos, length, None, Some}
 use Rattle.voting.specs.declared.settings.VotingConfig.{VotingConfig}
-use Rattle.voting.specs.declared.table.Value.TheVariants.{Absent, Number}
 use Rattle.voting.specs.declared.table.Fork.{Fork}
 use Rattle.voting.specs.Settings.{voting_length, vote_epochs, activation_epochs, fork_limit, settings_large}
 use Rattle.voting.specs.Table.{fork_entries}
@@ -12,8 +11,8 @@ use Rattle.rounds.specs.Replay.{Replay, accepted, run, calls, epochs}
 
 -- 121, 122 and 123 for an open round, or for none, and a version
 abbrev pub entries_for : Round → ℕ → Fork
-entries_for idle v = fork_entries Absent Absent (Number (pos v))
-entries_for (since s n) v = fork_entries (Number (pos n)) (Number (pos s)) (Number (pos v))
+entries_for idle v = fork_entries None None (Some (pos v))
+entries_for (since s n) v = fork_entries (Some (pos n)) (Some (pos s)) (Some (pos v))
 
 -- the settings for which the promise holds
 pub record Sound (g : VotingConfig) : Type 0 where
@@ -53,19 +52,19 @@ span g es = cond (won g es) (vote_epochs g + activation_epochs g + 1) (vote_epoc
 -- A boundary at height h, from the old entries to the new ones. A round opens there, that is 122 becomes h, exactly when the boundary header
 -- votes 120 and no round is left open; and unless the open round is at its rise, the version does not change, save from 1 to 2.
 pub record Boundary (g : VotingConfig) (h : ℕ) (vote : Bool) (old new : Fork) : Type 0 where
-  pub opens : (new.start ≡ Number (pos h)) ↔ ((vote ≡ true) × ((S : ℕ) → old.start ≡ Number (pos S) → new.start ≡ Number (pos S) → ⊥))
-  pub stays : ((S : ℕ) → old.start ≡ Number (pos S) → h ≡ S + voting_length g * (vote_epochs g + activation_epochs g) → ⊥)
-      → (v : ℕ) → old.version ≡ Number (pos v) → new.version ≡ Number (pos (forced_version g h v))
+  pub opens : (new.start ≡ Some (pos h)) ↔ ((vote ≡ true) × ((S : ℕ) → old.start ≡ Some (pos S) → new.start ≡ Some (pos S) → ⊥))
+  pub stays : ((S : ℕ) → old.start ≡ Some (pos S) → h ≡ S + voting_length g * (vote_epochs g + activation_epochs g) → ⊥)
+      → (v : ℕ) → old.version ≡ Some (pos v) → new.version ≡ Some (pos (forced_version g h v))
 
 -- A round opened at S by a record with the vote bytes e; t is the state after that record, rs the records since. With as many epochs since as
 -- `epochs` has: before it closes, 122 is S and 121 is what was counted over the vote epochs so far; from its closing on, 122 is S no more; and at
 -- the boundary V+A epochs after S the version rises by one exactly if more than the limit was counted.
 pub record Life (g : VotingConfig) (m : Replay) (S : ℕ) (e : List ℕ) (t : m.State) (rs : List m.Record) : Type 0 where
   pub stands : length (epochs m t rs) < span g (e ∷ epochs m t rs)
-      → ((m.fork (run m t rs)).start ≡ Number (pos S)) × ((m.fork (run m t rs)).votes ≡ Number (pos (total (min (length (epochs m t rs)) (vote_epochs g)) (e ∷ epochs m t rs))))
-  pub closes : span g (e ∷ epochs m t rs) ≤ length (epochs m t rs) → (m.fork (run m t rs)).start ≡ Number (pos S) → ⊥
+      → ((m.fork (run m t rs)).start ≡ Some (pos S)) × ((m.fork (run m t rs)).votes ≡ Some (pos (total (min (length (epochs m t rs)) (vote_epochs g)) (e ∷ epochs m t rs))))
+  pub closes : span g (e ∷ epochs m t rs) ≤ length (epochs m t rs) → (m.fork (run m t rs)).start ≡ Some (pos S) → ⊥
   pub rises : (r : m.Record) (u : m.State) → m.step (run m t rs) r ≡ accepted u → suc (length (epochs m t rs)) ≡ vote_epochs g + activation_epochs g
-      → (v : ℕ) → (m.fork (run m t rs)).version ≡ Number (pos v) → (m.fork u).version ≡ Number (pos (forced_version g (m.height r) (cond (won g (e ∷ epochs m t rs)) (v + 1) v)))
+      → (v : ℕ) → (m.fork (run m t rs)).version ≡ Some (pos v) → (m.fork u).version ≡ Some (pos (forced_version g (m.height r) (cond (won g (e ∷ epochs m t rs)) (v + 1) v)))
 
 -- The promise for a list of records, from a state s. Heights rise by the length; the entries are the book's; and of every further record that
 -- is accepted, its boundary, and the life of a round that opens there, whatever records follow.
@@ -74,5 +73,5 @@ pub record Promise (g : VotingConfig) (m : Replay) (s : m.State) (v : ℕ) (befo
   pub book : m.fork (run m s rs) ≡ entries_by (book_run g (first_book v before) (calls m s rs))
   pub boundary : (r : m.Record) (t : m.State) → m.step (run m s rs) r ≡ accepted t
       → (m.height r ≡ m.next (run m s rs)) × Boundary g (m.height r) (boundary_votes (m.votes r)) (m.fork (run m s rs)) (m.fork t)
-  pub life : (r : m.Record) (t : m.State) → m.step (run m s rs) r ≡ accepted t → (m.fork t).start ≡ Number (pos (m.height r))
+  pub life : (r : m.Record) (t : m.State) → m.step (run m s rs) r ≡ accepted t → (m.fork t).start ≡ Some (pos (m.height r))
       → (after : List m.Record) → Life g m (m.height r) (m.votes r) t after

@@ -1,9 +1,8 @@
 -- The lines that the replay prints, as ASCII bytes. docs/RULES.md, "Replay".
 -- Assumes nothing.
-use Rattle.std.specs.Prelude.{ℕ, ◌+◌, List, [], ◌∷◌, ◌++◌, ℤ, pos, negsuc}
+use Rattle.std.specs.Prelude.{ℕ, ◌+◌, List, [], ◌∷◌, ◌++◌, ℤ, pos, negsuc, None, Some}
 use Rattle.codec.specs.Decimal.{digits, newline}
-use Rattle.voting.specs.declared.table.Value.{Value}
-use Rattle.voting.specs.declared.table.Value.TheVariants.{Absent, Number}
+use Rattle.voting.specs.Value.{Value}
 use Rattle.voting.specs.declared.table.Fork.{Fork}
 
 -- numbers of 32 bits have at most ten
@@ -13,8 +12,8 @@ decimal (negsuc n) = 45 ∷ digits 10 (n + 1)
 
 -- an entry of the table: `-` where it is absent
 unfoldable pub column : Value → List ℕ
-column Absent = 45 ∷ []
-column (Number z) = decimal z
+column None = 45 ∷ []
+column (Some z) = decimal z
 
 abbrev pub space : List ℕ
 space = 32 ∷ []

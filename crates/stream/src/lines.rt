@@ -81,8 +81,8 @@ fn put_column(out: &mut [u8], at: usize, value: Value) -> usize
     ensures { Put (column value) 11 at result out.old out.new }
 {
     match value {
-        Value::Absent => put(out, at, 45),
-        Value::Number(x) => put_decimal(out, at, x),
+        None => put(out, at, 45),
+        Some(x) => put_decimal(out, at, x),
     }
 }
 

@@ -1,9 +1,8 @@
 -- The boundary on values: fork part, ordinary votes, entry 9. docs/RULES.md, "Boundary".
 -- Assumes nothing.
-use Rattle.std.specs.Prelude.{ℕ, Bool, true, false, cond, not, ◌&&◌, List, ℤ, pos}
+use Rattle.std.specs.Prelude.{ℕ, Bool, true, false, cond, not, ◌&&◌, List, ℤ, pos, None, Some}
 use Rattle.voting.specs.declared.settings.VotingConfig.{VotingConfig}
-use Rattle.voting.specs.declared.table.Value.{Value}
-use Rattle.voting.specs.declared.table.Value.TheVariants.{Absent, Number}
+use Rattle.voting.specs.Value.{Value}
 use Rattle.voting.specs.declared.table.Table.{Table}
 use Rattle.voting.specs.declared.tally.Entry.{Entry}
 use Rattle.voting.specs.declared.boundary.Boundary.{Boundary}
@@ -20,12 +19,12 @@ refuses t n = record { refusal = n; table = t; round = no_round }
 
 -- an entry is this number; an entry is absent
 unfoldable pub is_number : Value → ℤ → Bool
-is_number Absent z = false
-is_number (Number y) z = eq_z y z
+is_number None z = false
+is_number (Some y) z = eq_z y z
 
 unfoldable pub is_absent : Value → Bool
-is_absent Absent = true
-is_absent (Number y) = false
+is_absent None = true
+is_absent (Some y) = false
 
 -- the version at which entry 9 is set by itself, and to what
 abbrev pub subblocks_version : ℤ
@@ -38,7 +37,7 @@ subblocks_at_first = pos 30
 unfoldable pub with_subblocks : Bool → Table → Table
 with_subblocks disabled t =
     cond (is_number (lookup t id_block_version) subblocks_version && is_absent (lookup t id_subblocks_per_block) && not disabled)
-    (update t id_subblocks_per_block (Number subblocks_at_first)) t
+    (update t id_subblocks_per_block (Some subblocks_at_first)) t
 
 -- The height, the old table, the tally of the epoch before, whether the boundary header votes 120, and whether the proposed update disables rule
 -- 409: the fork part, with the count of the first entry for the fork (17 to 20); the ordinary votes, which read the table as it then stands (13

@@ -1,10 +1,9 @@
 -- The fork check of a header. docs/RULES.md, "Fork check".
 -- Assumes nothing.
-use Rattle.std.specs.Prelude.{ℕ, ◌+◌, ◌*◌, Bool, true, false, cond, not, ◌&&◌, ◌||◌, List, ℤ, pos, ◌+ℤ◌, int_le, int_lt}
+use Rattle.std.specs.Prelude.{ℕ, ◌+◌, ◌*◌, Bool, true, false, cond, not, ◌&&◌, ◌||◌, List, ℤ, pos, ◌+ℤ◌, int_le, int_lt, None, Some}
 use Rattle.codec.specs.Refusal.{fork_vote_barred, setting_large, votes_collected_absent}
 use Rattle.voting.specs.declared.settings.VotingConfig.{VotingConfig}
-use Rattle.voting.specs.declared.table.Value.{Value}
-use Rattle.voting.specs.declared.table.Value.TheVariants.{Absent, Number}
+use Rattle.voting.specs.Value.{Value}
 use Rattle.voting.specs.declared.table.Table.{Table}
 use Rattle.voting.specs.declared.fork.ForkVote.{ForkVote}
 use Rattle.voting.specs.declared.fork.ForkVote.TheVariants.{Allowed, Barred, Refused}
@@ -28,9 +27,9 @@ barred g height start votes =
 
 -- with 122 and 121: allowed without 122, and 19 without 121
 unfoldable pub check_round : VotingConfig → ℕ → Value → Value → ForkVote
-check_round g height Absent votes = Allowed
-check_round g height (Number start) Absent = Refused votes_collected_absent
-check_round g height (Number start) (Number votes) = cond (barred g height start votes) Barred Allowed
+check_round g height None votes = Allowed
+check_round g height (Some start) None = Refused votes_collected_absent
+check_round g height (Some start) (Some votes) = cond (barred g height start votes) Barred Allowed
 
 unfoldable pub check_fork_vote : VotingConfig → ℕ → List ℕ → Table → ForkVote
 check_fork_vote g height votes t =
@@ -45,9 +44,9 @@ fork_refusal (Refused n) = n
 
 -- every header below this height is allowed, since no round is open there or its votes are still collected
 unfoldable pub round_open : VotingConfig → ℕ → Value → Value → Bool
-round_open g end Absent votes = true
-round_open g end (Number start) Absent = false
-round_open g end (Number start) (Number votes) = int_le (pos end) (epochs_after g start (vote_epochs g))
+round_open g end None votes = true
+round_open g end (Some start) None = false
+round_open g end (Some start) (Some votes) = int_le (pos end) (epochs_after g start (vote_epochs g))
 
 unfoldable pub votes_open : VotingConfig → ℕ → Table → Bool
 votes_open g end t = not (settings_large g) && round_open g end (lookup t id_starting_height) (lookup t id_votes_collected)

@@ -1,11 +1,10 @@
 -- The fork part of a boundary: what entries 121, 122 and 123 become, and what happens to a round. docs/RULES.md, "Boundary".
 -- Assumes nothing.
-use Rattle.std.specs.Prelude.{ℕ, ◌+◌, ◌%◌, Bool, false, cond, not, ◌&&◌, ◌||◌, ℤ, pos, ◌+ℤ◌, ◌==◌, int_le}
+use Rattle.std.specs.Prelude.{ℕ, ◌+◌, ◌%◌, Bool, false, cond, not, ◌&&◌, ◌||◌, ℤ, pos, ◌+ℤ◌, ◌==◌, int_le, None, Some}
 use Rattle.codec.specs.Refusal.{voting_length_zero, setting_large, votes_collected_absent, block_version_absent}
 use Rattle.codec.specs.Signed.{wrapped}
 use Rattle.voting.specs.declared.settings.VotingConfig.{VotingConfig}
-use Rattle.voting.specs.declared.table.Value.{Value}
-use Rattle.voting.specs.declared.table.Value.TheVariants.{Absent, Number}
+use Rattle.voting.specs.Value.{Value}
 use Rattle.voting.specs.declared.table.Fork.{Fork}
 use Rattle.voting.specs.declared.fork.Phase.{Phase}
 use Rattle.voting.specs.declared.fork.Round.{Round}
@@ -18,7 +17,7 @@ use Rattle.voting.specs.ForkCheck.{epochs_after}
 
 -- nothing happens to a round
 abbrev pub no_round : Round
-no_round = record { opened = false; closed = false; rose = false; total = Absent }
+no_round = record { opened = false; closed = false; rose = false; total = None }
 
 -- refused: the old entries, and nothing happens
 abbrev pub fork_refused : Fork → ℕ → ForkPart
@@ -49,7 +48,7 @@ unfoldable pub closes_late : Phase → Bool → Bool
 closes_late p approved = p.late && approved
 
 unfoldable pub without : Bool → Fork → Fork
-without closes f = cond closes (fork_entries Absent Absent f.version) f
+without closes f = cond closes (fork_entries None None f.version) f
 
 -- 2. At S+L(V+1), if it is not approved: the same.
 unfoldable pub closes_early : Phase → Bool → Bool
@@ -61,11 +60,11 @@ unfoldable pub restarts : Phase → (vote approved : Bool) → Bool
 restarts p vote approved = vote && (p.late || (p.early && not approved))
 
 unfoldable pub begun : Bool → ℕ → Fork → Fork
-begun opens height f = cond opens (fork_entries (Number (pos 0)) (Number (wrapped 32 (pos height))) f.version) f
+begun opens height f = cond opens (fork_entries (Some (pos 0)) (Some (wrapped 32 (pos height))) f.version) f
 
 -- 4. At a height of at most S+L×V: 121 becomes the total.
 unfoldable pub collected : Bool → ℤ → Fork → Fork
-collected voting total f = cond voting (fork_entries (Number total) f.start f.version) f
+collected voting total f = cond voting (fork_entries (Some total) f.start f.version) f
 
 -- 5. At S+L(V+A), if it is approved: 123 rises by 1 and wraps.
 unfoldable pub rises : Phase → Bool → Bool
@@ -73,8 +72,8 @@ rises p approved = p.rising && approved
 
 -- 123 changed where it has to be: 20 if it is absent there
 unfoldable pub version_by : Bool → (ℤ → ℤ) → Fork → Value → Forked
-version_by changes next f Absent = cond changes (record { refusal = block_version_absent; fork = f }) (record { refusal = 0; fork = f })
-version_by changes next f (Number z) = record { refusal = 0; fork = fork_entries f.votes f.start (Number (cond changes (next z) z)) }
+version_by changes next f None = cond changes (record { refusal = block_version_absent; fork = f }) (record { refusal = 0; fork = f })
+version_by changes next f (Some z) = record { refusal = 0; fork = fork_entries f.votes f.start (Some (cond changes (next z) z)) }
 
 unfoldable pub one_more : ℤ → ℤ
 one_more z = wrapped 32 (z +ℤ pos 1)
@@ -99,7 +98,7 @@ round_steps p vote approved total =
       opened = restarts p vote approved;
       closed = closes_late p approved || closes_early p approved || restarts p vote approved;
       rose = rises p approved;
-      total = cond p.voting (Number total) Absent;
+      total = cond p.voting (Some total) None;
     }
 
 -- ---- the version, and all of it
@@ -120,21 +119,21 @@ finished g height old round f =
 
 -- a round open: 19 if 121 is absent where a step reads the total, and nowhere else
 unfoldable pub running : VotingConfig → ℕ → Bool → ℕ → Fork → Phase → Value → ForkPart
-running g height vote votes old p Absent =
+running g height vote votes old p None =
     cond (reads_total p) (fork_refused old votes_collected_absent) (finished g height old no_round (record { refusal = 0; fork = old }))
-running g height vote votes old p (Number n) =
+running g height vote votes old p (Some n) =
     finished g height old (round_steps p vote (soft_fork_approved g (fork_total votes n)) (fork_total votes n))
     (five_steps p vote (soft_fork_approved g (fork_total votes n)) (fork_total votes n) height old)
 
 -- no 122: if the boundary votes 120 and its height is a multiple of L, 122 becomes the height and 121 becomes 0
 unfoldable pub opening : VotingConfig → ℕ → Bool → Fork → ForkPart
 opening g height vote old =
-    finished g height old (record { opened = vote && (height % voting_length g == 0); closed = false; rose = false; total = Absent })
+    finished g height old (record { opened = vote && (height % voting_length g == 0); closed = false; rose = false; total = None })
     (record { refusal = 0; fork = begun (vote && height % voting_length g == 0) height old })
 
 unfoldable pub by_start : VotingConfig → ℕ → Bool → ℕ → Fork → Value → ForkPart
-by_start g height vote votes old Absent = opening g height vote old
-by_start g height vote votes old (Number start) = running g height vote votes old (phase_at g height start) old.votes
+by_start g height vote votes old None = opening g height vote old
+by_start g height vote votes old (Some start) = running g height vote votes old (phase_at g height start) old.votes
 
 -- The fork part, by the settings, the height, whether the boundary header votes 120, the first 120 entry's count, and the old entries: 17 if L
 -- is 0, 18 if a setting is large, then 19 and 20 as they are met.

@@ -1,5 +1,6 @@
 pub mod Common
 pub mod Settings
+pub mod Value
 pub mod Table
 pub mod Header
 pub mod Tally

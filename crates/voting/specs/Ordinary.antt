@@ -1,10 +1,9 @@
 -- The ordinary votes at a boundary: which are approved, and the step of each parameter. docs/RULES.md, "Boundary".
 -- Assumes nothing.
-use Rattle.std.specs.Prelude.{ℕ, ◌-◌, Bool, cond, ◌&&◌, List, [], ◌∷◌, ℤ, pos, ◌+ℤ◌, ◌-ℤ◌, ◌==◌, int_div, int_lt, nat_le, slice_index_or, unsigned_abs}
+use Rattle.std.specs.Prelude.{ℕ, ◌-◌, Bool, cond, ◌&&◌, List, [], ◌∷◌, ℤ, pos, ◌+ℤ◌, ◌-ℤ◌, ◌==◌, int_div, int_lt, nat_le, slice_index_or, unsigned_abs, None, Some}
 use Rattle.codec.specs.Refusal.{unknown_parameter, absent_parameter}
 use Rattle.voting.specs.declared.settings.VotingConfig.{VotingConfig}
-use Rattle.voting.specs.declared.table.Value.{Value}
-use Rattle.voting.specs.declared.table.Value.TheVariants.{Absent, Number}
+use Rattle.voting.specs.Value.{Value}
 use Rattle.voting.specs.declared.table.Table.{Table}
 use Rattle.voting.specs.declared.tally.Entry.{Entry}
 use Rattle.voting.specs.declared.ordinary.Voted.{Voted}
@@ -74,8 +73,8 @@ counts g e = int_lt e.id (pos soft_fork_vote) && change_approved g e.count
 
 -- the parameter's old value, moved; 14 where it is absent
 unfoldable pub writes : ℤ → Table → Value → Voted
-writes id new Absent = stops new absent_parameter
-writes id new (Number z) = passes (update new (parameter id) (Number (moved id z)))
+writes id new None = stops new absent_parameter
+writes id new (Some z) = passes (update new (parameter id) (Some (moved id z)))
 
 -- an approved vote: 13 where the parameter is unknown; its value is read in the table after the fork part
 unfoldable pub approved_vote : Table → ℤ → Table → Voted
@@ -91,10 +90,10 @@ ordinary_votes g from (e ∷ es) new = onward (voted g from e new) (ordinary_vot
 
 -- The three lists as the Rust reads them: nothing for an id that is no parameter, and for a computed step.
 unfoldable pub parameter_min : ℤ → Value
-parameter_min id = cond (known (parameter id)) (Number (least_of (parameter id))) Absent
+parameter_min id = cond (known (parameter id)) (Some (least_of (parameter id))) None
 
 unfoldable pub parameter_max : ℤ → Value
-parameter_max id = cond (known (parameter id)) (Number (greatest_of (parameter id))) Absent
+parameter_max id = cond (known (parameter id)) (Some (greatest_of (parameter id))) None
 
 unfoldable pub parameter_step : ℤ → Value
-parameter_step id = cond (known (parameter id) && int_lt (pos 0) (fixed_step_of (parameter id))) (Number (fixed_step_of (parameter id))) Absent
+parameter_step id = cond (known (parameter id) && int_lt (pos 0) (fixed_step_of (parameter id))) (Some (fixed_step_of (parameter id))) None

@@ -1,8 +1,7 @@
 -- How a boundary moves the ordinary parameters, by the votes that were counted in the epoch before. docs/RULES.md, "Steps over the years".
 -- Assumes nothing.
-use Rattle.std.specs.Prelude.{◌≡◌, ℕ, ◌-◌, ◌<◌, ◌≤◌, true, ◌↔◌, List, ℤ, ◌+ℤ◌, ◌-ℤ◌, int_lt}
-use Rattle.voting.specs.declared.table.Value.{Value}
-use Rattle.voting.specs.declared.table.Value.TheVariants.{Number}
+use Rattle.std.specs.Prelude.{◌≡◌, ℕ, ◌-◌, ◌<◌, ◌≤◌, true, ◌↔◌, List, ℤ, ◌+ℤ◌, ◌-ℤ◌, int_lt, Some}
+use Rattle.voting.specs.Value.{Value}
 use Rattle.voting.specs.declared.table.Table.{Table}
 use Rattle.voting.specs.Table.{lookup}
 use Rattle.voting.specs.Tally.{counted_for}
@@ -22,11 +21,11 @@ Down half epoch p z = (int_lt (least_of p) z ≡ true) × (half < counted_for (2
 
 -- what becomes of p: one step up exactly in the first case, one step down exactly in the second; both are never so; in neither it stays
 pub record Step (half : ℕ) (epoch : List ℕ) (p : ℕ) (z : ℤ) (new : Value) : Type 0 where
-  pub up : (new ≡ Number (z +ℤ step_of p z)) ↔ Up half epoch p z
-  pub down : (new ≡ Number (z -ℤ step_of p z)) ↔ Down half epoch p z
+  pub up : (new ≡ Some (z +ℤ step_of p z)) ↔ Up half epoch p z
+  pub down : (new ≡ Some (z -ℤ step_of p z)) ↔ Down half epoch p z
   pub not-both : Up half epoch p z → Down half epoch p z → ⊥
-  pub stays : (Up half epoch p z → ⊥) → (Down half epoch p z → ⊥) → new ≡ Number z
+  pub stays : (Up half epoch p z → ⊥) → (Down half epoch p z → ⊥) → new ≡ Some z
 
 -- so of each ordinary parameter that the old table has
 abbrev pub Stepped : ℕ → List ℕ → Table → Table → Type 0
-Stepped half epoch old new = (p : ℕ) → 1 ≤ p → p ≤ 9 → (z : ℤ) → lookup old p ≡ Number z → Step half epoch p z (lookup new p)
+Stepped half epoch old new = (p : ℕ) → 1 ≤ p → p ≤ 9 → (z : ℤ) → lookup old p ≡ Some z → Step half epoch p z (lookup new p)

@@ -1,13 +1,11 @@
 -- The table of twelve entries, the first tables of the networks, and the check of a block's version.
 -- docs/RULES.md, "Table and settings" and "Writers and rest".
 -- Assumes nothing.
-use Rattle.std.specs.Prelude.{ℕ, ◌-◌, cond, [], ◌∷◌, ℤ, pos, ◌==◌, nat_lt, slice_index_or, slice_set}
+use Rattle.std.specs.Prelude.{ℕ, ◌-◌, cond, [], ◌∷◌, ℤ, pos, ◌==◌, nat_lt, slice_index_or, slice_set, None, Some}
 use Rattle.codec.specs.Refusal.{block_version_absent, block_version_differs}
 use Rattle.voting.specs.declared.settings.Network.{Network}
 use Rattle.voting.specs.declared.settings.Network.TheVariants.{Mainnet, Testnet}
-use Rattle.voting.specs.declared.table.Value.{Value}
-use Rattle.voting.specs.declared.table.Value.TheVariants.{Absent, Number}
-use Rattle.voting.specs.declared.table.Slot.{Slot}
+use Rattle.voting.specs.Value.{Value}
 use Rattle.voting.specs.declared.table.Fork.{Fork}
 use Rattle.voting.specs.declared.table.Table.{Table}
 use Rattle.voting.specs.Common.{eq_z}
@@ -25,9 +23,6 @@ id_starting_height = 122
 abbrev pub id_block_version : ℕ
 id_block_version = 123
 
-abbrev pub slot : Value → Slot
-slot v = record { value = v }
-
 abbrev pub fork_entries : Value → Value → Value → Fork
 fork_entries votes start version = record { votes = votes; start = start; version = version }
 
@@ -41,7 +36,7 @@ lookup t id =
     cond (id == id_votes_collected) t.fork.votes
     (cond (id == id_starting_height) t.fork.start
     (cond (id == id_block_version) t.fork.version
-    (cond (nat_lt id 1) Absent (cond (nat_lt id_subblocks_per_block id) Absent (slice_index_or t.ordinary (id - 1) (slot Absent)).value))))
+    (cond (nat_lt id 1) None (cond (nat_lt id_subblocks_per_block id) None (slice_index_or t.ordinary (id - 1) None)))))
 
 -- the table with one entry written; an id that has none changes nothing
 unfoldable pub update : Table → ℕ → Value → Table
@@ -50,24 +45,24 @@ update t id v =
     (cond (id == id_starting_height) (with_fork t (fork_entries t.fork.votes v t.fork.version))
     (cond (id == id_block_version) (with_fork t (fork_entries t.fork.votes t.fork.start v))
     (cond (nat_lt id 1) t
-    (cond (nat_lt id_subblocks_per_block id) t (record { ordinary = slice_set t.ordinary (id - 1) (slot v); fork = t.fork })))))
+    (cond (nat_lt id_subblocks_per_block id) t (record { ordinary = slice_set t.ordinary (id - 1) v; fork = t.fork })))))
 
 -- the table that a network begins with: entry 9 and the version differ
 unfoldable pub beginning : Value → ℤ → Table
 beginning nine version =
     record {
-      ordinary = slot (Number (pos 1250000)) ∷ slot (Number (pos 360)) ∷ slot (Number (pos 524288)) ∷ slot (Number (pos 1000000)) ∷ slot (Number (pos 100)) ∷ slot (Number (pos 2000)) ∷ slot (Number (pos 100)) ∷ slot (Number (pos 100)) ∷ slot nine ∷ [];
-      fork = fork_entries Absent Absent (Number version);
+      ordinary = Some (pos 1250000) ∷ Some (pos 360) ∷ Some (pos 524288) ∷ Some (pos 1000000) ∷ Some (pos 100) ∷ Some (pos 2000) ∷ Some (pos 100) ∷ Some (pos 100) ∷ nine ∷ [];
+      fork = fork_entries None None (Some version);
     }
 
 unfoldable pub default_parameters : Network → Table
-default_parameters Mainnet = beginning Absent (pos 1)
-default_parameters Testnet = beginning (Number (pos 30)) (pos 4)
+default_parameters Mainnet = beginning None (pos 1)
+default_parameters Testnet = beginning (Some (pos 30)) (pos 4)
 
 -- 20 where there is no version, 16 where it is another one
 unfoldable pub version_refusal : Value → ℕ → ℕ
-version_refusal Absent v = block_version_absent
-version_refusal (Number z) v = cond (eq_z z (pos v)) 0 block_version_differs
+version_refusal None v = block_version_absent
+version_refusal (Some z) v = cond (eq_z z (pos v)) 0 block_version_differs
 
 unfoldable pub check_block_version : Table → ℕ → ℕ
 check_block_version t v = version_refusal (lookup t id_block_version) v

@@ -30,8 +30,8 @@ fn is_number(v: Value, n: i32) -> bool
     ensures { result ≡ is_number v n }
 {
     match v {
-        Value::Absent => false,
-        Value::Number(z) => z == n,
+        None => false,
+        Some(z) => z == n,
     }
 }
 
@@ -39,8 +39,8 @@ fn is_absent(v: Value) -> bool
     ensures { result ≡ is_absent v }
 {
     match v {
-        Value::Absent => true,
-        Value::Number(_) => false,
+        None => true,
+        Some(_) => false,
     }
 }
 
@@ -51,7 +51,7 @@ pub fn with_subblocks(disabled: bool, t: Table) -> Table
     let version = t.get(ID_BLOCK_VERSION);
     let subblocks = t.get(ID_SUBBLOCKS_PER_BLOCK);
     if is_number(version, SUBBLOCKS_VERSION) & is_absent(subblocks) & !disabled {
-        return t.with(ID_SUBBLOCKS_PER_BLOCK, Value::Number(SUBBLOCKS_AT_FIRST));
+        return t.with(ID_SUBBLOCKS_PER_BLOCK, Some(SUBBLOCKS_AT_FIRST));
     }
     t
 }

@@ -79,10 +79,10 @@ fn check_round(config: VotingConfig, height: u32, start: Value, votes: Value) ->
     ensures { result ≡ check_round config height start votes }
 {
     match start {
-        Value::Absent => ForkVote::Allowed,
-        Value::Number(s) => match votes {
-            Value::Absent => ForkVote::Refused(refusal::VOTES_COLLECTED_ABSENT),
-            Value::Number(n) => {
+        None => ForkVote::Allowed,
+        Some(s) => match votes {
+            None => ForkVote::Refused(refusal::VOTES_COLLECTED_ABSENT),
+            Some(n) => {
                 if is_barred(config, height, s, n) {
                     return ForkVote::Barred;
                 }
@@ -112,10 +112,10 @@ fn round_open(config: VotingConfig, end: u32, start: Value, votes: Value) -> boo
     ensures { result ≡ round_open config end start votes }
 {
     match start {
-        Value::Absent => true,
-        Value::Number(s) => match votes {
-            Value::Absent => false,
-            Value::Number(_) => {
+        None => true,
+        Some(s) => match votes {
+            None => false,
+            Some(_) => {
                 let from = epochs_after(s, config.voting_length, config.soft_fork_epochs);
                 end as u64 + 2147483648 <= from
             }
@@ -154,7 +154,7 @@ pub(crate) fn no_round() -> Round
         opened: false,
         closed: false,
         rose: false,
-        total: Value::Absent,
+        total: None,
     }
 }
 
@@ -228,8 +228,8 @@ fn without(closes: bool, f: Fork) -> Fork
     if closes {
         let version = f.version;
         return Fork {
-            votes: Value::Absent,
-            start: Value::Absent,
+            votes: None,
+            start: None,
             version,
         };
     }
@@ -244,8 +244,8 @@ fn begun(opens: bool, height: u32, f: Fork) -> Fork
         let h = signed::i32_of(height);
         let version = f.version;
         return Fork {
-            votes: Value::Number(0),
-            start: Value::Number(h),
+            votes: Some(0),
+            start: Some(h),
             version,
         };
     }
@@ -260,7 +260,7 @@ fn collected(voting: bool, total: i32, f: Fork) -> Fork
         let start = f.start;
         let version = f.version;
         return Fork {
-            votes: Value::Number(total),
+            votes: Some(total),
             start,
             version,
         };
@@ -269,7 +269,7 @@ fn collected(voting: bool, total: i32, f: Fork) -> Fork
 }
 
 fn with_version(f: Fork, z: i32) -> Forked
-    ensures { result ≡ record { refusal = 0; fork = record { votes = f.votes; start = f.start; version = Value.Number z } } }
+    ensures { result ≡ record { refusal = 0; fork = record { votes = f.votes; start = f.start; version = Some z } } }
 {
     let votes = f.votes;
     let start = f.start;
@@ -278,7 +278,7 @@ fn with_version(f: Fork, z: i32) -> Forked
         fork: Fork {
             votes,
             start,
-            version: Value::Number(z),
+            version: Some(z),
         },
     }
 }
@@ -301,11 +301,11 @@ fn risen(rise: bool, f: Fork) -> Forked
     }
     let version = f.version;
     match version {
-        Value::Absent => Forked {
+        None => Forked {
             refusal: refusal::BLOCK_VERSION_ABSENT,
             fork: f,
         },
-        Value::Number(z) => with_version(f, one_more(z)),
+        Some(z) => with_version(f, one_more(z)),
     }
 }
 
@@ -321,12 +321,12 @@ fn five_steps(p: Phase, vote: bool, approved: bool, total: i32, height: u32, old
 }
 
 fn stored(voting: bool, total: i32) -> Value
-    ensures { result ≡ (if voting then Value.Number total else Value.Absent) }
+    ensures { result ≡ (if voting then Some total else None) }
 {
     if voting {
-        return Value::Number(total);
+        return Some(total);
     }
-    Value::Absent
+    None
 }
 
 // What happens to the round in them.
@@ -364,11 +364,11 @@ fn forced(at: bool, f: Fork) -> Forked
     }
     let version = f.version;
     match version {
-        Value::Absent => Forked {
+        None => Forked {
             refusal: refusal::BLOCK_VERSION_ABSENT,
             fork: f,
         },
-        Value::Number(z) => with_version(f, two_for_one(z)),
+        Some(z) => with_version(f, two_for_one(z)),
     }
 }
 
@@ -405,7 +405,7 @@ fn running(
     ensures { result ≡ running config height vote votes old p collected }
 {
     match collected {
-        Value::Absent => {
+        None => {
             if reads_total(p) {
                 return fork_refused(old, refusal::VOTES_COLLECTED_ABSENT);
             }
@@ -415,7 +415,7 @@ fn running(
             };
             finished(config, height, old, no_round(), f)
         }
-        Value::Number(n) => {
+        Some(n) => {
             let total = fork_total(votes, n);
             let approved = config.soft_fork_approved(total);
             let round = round_steps(p, vote, approved, total);
@@ -435,7 +435,7 @@ fn opening(config: VotingConfig, height: u32, vote: bool, old: Fork) -> ForkPart
         opened,
         closed: false,
         rose: false,
-        total: Value::Absent,
+        total: None,
     };
     let f = Forked {
         refusal: 0,
@@ -464,8 +464,8 @@ pub(crate) fn fork_part(
     let start = old.start;
     let collected = old.votes;
     match start {
-        Value::Absent => opening(config, height, vote, old),
-        Value::Number(s) => running(
+        None => opening(config, height, vote, old),
+        Some(s) => running(
             config,
             height,
             vote,

@@ -135,13 +135,13 @@ pub fn vote(config: VotingConfig, from: Table, e: Entry, new: Table) -> Voted
     }
     let v = from.get(m);
     match v {
-        Value::Absent => Voted {
+        None => Voted {
             refusal: refusal::ABSENT_PARAMETER,
             table: new,
         },
-        Value::Number(z) => {
+        Some(z) => {
             let x = moved(id, z);
-            let t = new.with(m, Value::Number(x));
+            let t = new.with(m, Some(x));
             Voted {
                 refusal: 0,
                 table: t,
@@ -157,9 +157,9 @@ pub fn parameter_min(id: i8) -> Value
     let m = parameter(id);
     if is_known(m) {
         let n = least_of(m);
-        return Value::Number(n);
+        return Some(n);
     }
-    Value::Absent
+    None
 }
 
 // The greatest value.
@@ -169,9 +169,9 @@ pub fn parameter_max(id: i8) -> Value
     let m = parameter(id);
     if is_known(m) {
         let n = greatest_of(m);
-        return Value::Number(n);
+        return Some(n);
     }
-    Value::Absent
+    None
 }
 
 // The fixed step; absent also where the step is computed.
@@ -182,8 +182,8 @@ pub fn parameter_step(id: i8) -> Value
     if is_known(m) {
         let n = fixed_step_of(m);
         if 0 < n {
-            return Value::Number(n);
+            return Some(n);
         }
     }
-    Value::Absent
+    None
 }

@@ -14,16 +14,8 @@ pub const ID_SOFT_FORK_STARTING_HEIGHT: u8 = 122;
 
 pub const ID_BLOCK_VERSION: u8 = 123;
 
-#[derive(Clone, Copy)]
-pub enum Value {
-    Absent,
-    Number(i32),
-}
-
-#[derive(Clone, Copy)]
-pub struct Slot {
-    pub value: Value,
-}
+// The value of an entry; none where the entry is absent.
+pub type Value = Option<i32>;
 
 // Entries 121 (votes collected), 122 (starting height) and 123 (block version).
 #[derive(Clone, Copy)]
@@ -36,7 +28,7 @@ pub struct Fork {
 // Entries 1 to 9 in order, and the three of the fork.
 #[derive(Clone, Copy)]
 pub struct Table {
-    pub ordinary: [Slot; 9],
+    pub ordinary: [Value; 9],
     pub fork: Fork,
 }
 
@@ -56,14 +48,12 @@ impl Table {
             return f.version;
         }
         if id < 1 {
-            return Value::Absent;
+            return None;
         }
         if ID_SUBBLOCKS_PER_BLOCK < id {
-            return Value::Absent;
+            return None;
         }
-        let k = (id - 1) as usize;
-        let s = self.ordinary[k];
-        s.value
+        self.ordinary[(id - 1) as usize]
     }
 
     // The table with the entry of an id written, or removed by an absent value; an id without one changes nothing.
@@ -105,8 +95,7 @@ impl Table {
         if ID_SUBBLOCKS_PER_BLOCK < id {
             return self;
         }
-        let k = (id - 1) as usize;
-        self.ordinary[k] = Slot { value };
+        self.ordinary[(id - 1) as usize] = value;
         self
     }
 }
@@ -116,36 +105,20 @@ fn beginning(nine: Value, version: i32) -> Table
 {
     Table {
         ordinary: [
-            Slot {
-                value: Value::Number(1250000),
-            },
-            Slot {
-                value: Value::Number(360),
-            },
-            Slot {
-                value: Value::Number(524288),
-            },
-            Slot {
-                value: Value::Number(1000000),
-            },
-            Slot {
-                value: Value::Number(100),
-            },
-            Slot {
-                value: Value::Number(2000),
-            },
-            Slot {
-                value: Value::Number(100),
-            },
-            Slot {
-                value: Value::Number(100),
-            },
-            Slot { value: nine },
+            Some(1250000),
+            Some(360),
+            Some(524288),
+            Some(1000000),
+            Some(100),
+            Some(2000),
+            Some(100),
+            Some(100),
+            nine,
         ],
         fork: Fork {
-            votes: Value::Absent,
-            start: Value::Absent,
-            version: Value::Number(version),
+            votes: None,
+            start: None,
+            version: Some(version),
         },
     }
 }
@@ -155,8 +128,8 @@ pub fn default_parameters(network: Network) -> Table
     ensures { result ≡ default_parameters network }
 {
     match network {
-        Network::Mainnet => beginning(Value::Absent, 1),
-        Network::Testnet => beginning(Value::Number(30), 4),
+        Network::Mainnet => beginning(None, 1),
+        Network::Testnet => beginning(Some(30), 4),
     }
 }
 
@@ -167,8 +140,8 @@ pub fn check_block_version(table: Table, version: u8) -> u8
     let f = table.fork;
     let v = f.version;
     match v {
-        Value::Absent => refusal::BLOCK_VERSION_ABSENT,
-        Value::Number(z) => {
+        None => refusal::BLOCK_VERSION_ABSENT,
+        Some(z) => {
             if z == version as i32 {
                 return 0;
             }

@@ -1,9 +1,8 @@
 -- The code's shape, which need not be believed: laws join it to what the contracts of `walk` say.
 -- Assumes nothing.
-use Rattle.std.specs.Prelude.{ℕ, ◌-◌, cond, List, [], ◌∷◌, ltb, leb, eqb, length, get_or, set, replicate}
-use Rattle.voting.specs.Table.{slot, fork_entries}
-use Rattle.voting.specs.declared.table.Value.TheVariants.{Absent}
-use Rattle.voting.specs.declared.table.Slot.{Slot}
+use Rattle.std.specs.Prelude.{ℕ, ◌-◌, cond, List, [], ◌∷◌, ltb, leb, eqb, length, get_or, set, replicate, None}
+use Rattle.voting.specs.Table.{fork_entries}
+use Rattle.voting.specs.Value.{Value}
 use Rattle.voting.specs.declared.table.Fork.{Fork}
 use Rattle.voting.specs.declared.table.Table.{Table}
 use Rattle.extension.specs.Section.{refused_section}
@@ -20,25 +19,25 @@ unfoldable pub place_of : ℕ → ℕ → ℕ
 place_of key0 key1 = cond (eqb key0 0) (slot_of key1) 12
 
 -- a slot for each of the twelve, and one more
-abbrev pub no_slots : List Slot
-no_slots = replicate 13 (slot Absent)
+abbrev pub no_slots : List Value
+no_slots = replicate 13 None
 
-unfoldable pub slot_in : List ℕ → Slot
-slot_in v = slot (cond (eqb (length v) 4) (number_in v) Absent)
+unfoldable pub slot_in : List ℕ → Value
+slot_in v = cond (eqb (length v) 4) (number_in v) None
 
 -- fields in order, each stored at its place
-unfoldable pub stored : List Field → List Slot → List Slot
+unfoldable pub stored : List Field → List Value → List Value
 stored [] slots = slots
 stored (f ∷ fs) slots = stored fs (set slots (place_of f.key0 f.key1) (slot_in f.value))
 
-abbrev pub slot_at : List Slot → ℕ → Slot
-slot_at s k = get_or s k (slot Absent)
+abbrev pub slot_at : List Value → ℕ → Value
+slot_at s k = get_or s k None
 
-unfoldable pub table_from : List Slot → Table
+unfoldable pub table_from : List Value → Table
 table_from s =
     record {
       ordinary = slot_at s 0 ∷ slot_at s 1 ∷ slot_at s 2 ∷ slot_at s 3 ∷ slot_at s 4 ∷ slot_at s 5 ∷ slot_at s 6 ∷ slot_at s 7 ∷ slot_at s 8 ∷ [];
-      fork = fork_entries (slot_at s 9).value (slot_at s 10).value (slot_at s 11).value;
+      fork = fork_entries (slot_at s 9) (slot_at s 10) (slot_at s 11);
     }
 
 unfoldable pub refused_walk : ℕ → Walked

@@ -1,7 +1,7 @@
 -- What a replay asks of a body, and the match of a computed table with what was found. docs/RULES.md, "Extension body and match".
 -- Assumes nothing.
 use Rattle.std.specs.Prelude.{ℕ, ◌≡◌, cond, List, [], ◌∷◌}
-use Rattle.voting.specs.Table.{lookup, slot, fork_entries}
+use Rattle.voting.specs.Table.{lookup, fork_entries}
 use Rattle.voting.specs.declared.table.Table.{Table}
 use Rattle.extension.specs.declared.parameters.ParameterMap.{ParameterMap}
 use Rattle.extension.specs.declared.parameters.Matched.{Matched}
@@ -14,7 +14,7 @@ use Rattle.walk.specs.declared.Walked.{Walked}
 unfoldable pub table_in : ParameterMap → Table
 table_in m =
     record {
-      ordinary = slot (entry_of m 1) ∷ slot (entry_of m 2) ∷ slot (entry_of m 3) ∷ slot (entry_of m 4) ∷ slot (entry_of m 5) ∷ slot (entry_of m 6) ∷ slot (entry_of m 7) ∷ slot (entry_of m 8) ∷ slot (entry_of m 9) ∷ [];
+      ordinary = entry_of m 1 ∷ entry_of m 2 ∷ entry_of m 3 ∷ entry_of m 4 ∷ entry_of m 5 ∷ entry_of m 6 ∷ entry_of m 7 ∷ entry_of m 8 ∷ entry_of m 9 ∷ [];
       fork = fork_entries (entry_of m 121) (entry_of m 122) (entry_of m 123);
     }
 

@@ -9,13 +9,12 @@ ghost use Rattle.extension.specs.Parameters.{no_parameters, table_ids};
 ghost use Rattle.walk.specs.Walk.{table_in, WalkedIs, first_unlike, match_found};
 ghost use Rattle.walk.specs.Fields.{place_of, slot_in, table_from, refused_walk, fork_unlike};
 
-use codec::vlq::Read;
 use codec::{refusal, vlq};
 use extension::body::FieldAt;
 use extension::parameters::Matched;
 use extension::section::Parsed;
 use extension::{body, parameters, section};
-use voting::table::{Fork, Slot, Table, Value};
+use voting::table::{Fork, Table, Value};
 
 // The refusal's number and the section of the fields; where the bytes of the proposed update begin and end; and what the body's parameters
 // have of a table's twelve entries. A refused body has no parameters; where only a size is wrong, the update is the one of the fields.
@@ -38,8 +37,8 @@ pub fn walk_body(body: &[u8]) -> Walked
         return refused(refusal::BODY_SHORT);
     }
     match vlq::read_u32(body, body::HEADER_ID_SIZE) {
-        Read::Value(m) => walk_fields(body, m.value as u32, m.next),
-        Read::Unreadable => refused(refusal::COUNT_UNREADABLE),
+        Some(m) => walk_fields(body, m.value as u32, m.next),
+        None => refused(refusal::COUNT_UNREADABLE),
     }
 }
 
@@ -63,10 +62,7 @@ fn walk_fields(body: &[u8], count: u32, begin: usize) -> Walked
     requires { (length body.now ≤ 65536) × (closed count begin (listing (read_field body.now) count begin) ≡ extension_of body.now) }
     ensures { WalkedIs body.now result }
 {
-    let none = Slot {
-        value: Value::Absent,
-    };
-    let mut found = [none; 13];
+    let mut found = [None; 13];
     let mut wrong = false;
     let mut seen = false;
     let mut start: usize = 0;
@@ -126,15 +122,12 @@ fn refused(n: u8) -> Walked
 fn no_entries() -> Table
     ensures { result ≡ table_in no_parameters }
 {
-    let s = Slot {
-        value: Value::Absent,
-    };
     Table {
-        ordinary: [s; 9],
+        ordinary: [None; 9],
         fork: Fork {
-            votes: Value::Absent,
-            start: Value::Absent,
-            version: Value::Absent,
+            votes: None,
+            start: None,
+            version: None,
         },
     }
 }
@@ -162,33 +155,24 @@ fn place_of(key0: u8, key1: u8) -> usize
 }
 
 // A value of four bytes as an entry, any other as none.
-fn slot_in(v: &[u8]) -> Slot
+fn slot_in(v: &[u8]) -> Value
     ensures { result ≡ slot_in v.now }
 {
     if v.len() != 4 {
-        return Slot {
-            value: Value::Absent,
-        };
+        return None;
     }
-    let value = parameters::number_in(v[0], v[1], v[2], v[3]);
-    Slot { value }
+    parameters::number_in(v[0], v[1], v[2], v[3])
 }
 
-fn table_of(s: [Slot; 13]) -> Table
+fn table_of(s: [Value; 13]) -> Table
     ensures { result ≡ table_from s }
 {
-    let a = s[9];
-    let b = s[10];
-    let c = s[11];
-    let votes = a.value;
-    let start = b.value;
-    let version = c.value;
     Table {
         ordinary: [s[0], s[1], s[2], s[3], s[4], s[5], s[6], s[7], s[8]],
         fork: Fork {
-            votes,
-            start,
-            version,
+            votes: s[9],
+            start: s[10],
+            version: s[11],
         },
     }
 }
@@ -199,11 +183,7 @@ fn first_unlike(expected: Table, found: Table) -> u8
 {
     let mut k: usize = 0;
     while k < 9 {
-        let a = expected.ordinary[k];
-        let b = found.ordinary[k];
-        let x = a.value;
-        let y = b.value;
-        if parameters::differs(x, y) {
+        if parameters::differs(expected.ordinary[k], found.ordinary[k]) {
             return (k + 1) as u8;
         }
         k += 1;

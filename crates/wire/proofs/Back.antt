@@ -20,14 +20,12 @@ use Rattle.codec.specs.Signed.{bits_of}
 use Rattle.codec.proofs.Laws.BigEndian.{number-of-bytes, bytes-length}
 use Rattle.codec.proofs.Laws.Signed.{bits_back, bits_fit}
 use Rattle.voting.specs.declared.settings.VotingConfig.{VotingConfig}
-use Rattle.voting.specs.declared.table.Value.{Value}
-use Rattle.voting.specs.declared.table.Value.TheVariants.{Absent, Number}
-use Rattle.voting.specs.declared.table.Slot.{Slot}
+use Rattle.voting.specs.Value.{Value}
+use Rattle.std.specs.Prelude.{None, Some}
 use Rattle.voting.specs.declared.table.Fork.{Fork}
 use Rattle.voting.specs.declared.table.Table.{Table}
 use Rattle.voting.specs.declared.tally.Entry.{Entry}
 use Rattle.voting.specs.declared.tally.Tally.{Tally}
-use Rattle.voting.specs.Table.{slot}
 use Rattle.archive.specs.declared.replay.Replay.{Replay}
 use Rattle.extension.specs.declared.section.Section.{Section}
 use Rattle.extension.specs.declared.update.Update.{Update}
@@ -73,11 +71,11 @@ marked-back mark n {s} {at} h = (
     over k = omega arith
 
 -- a value
-pub absent-back : (v : Value) → v ≡ Absent → Back value_at (value_bytes v) v
+pub absent-back : (v : Value) → v ≡ None → Back value_at (value_bytes v) v
 unfolding value_at value_of value_bytes
 absent-back v e = rw e (λ s at h. rw (marked-back 0 0 h).0)
 
-pub present-back : (v : Value) (z : ℤ) → v ≡ Number z → SFits w32 z → Back value_at (value_bytes v) v
+pub present-back : (v : Value) (z : ℤ) → v ≡ Some z → SFits w32 z → Back value_at (value_bytes v) v
 unfolding value_at value_of value_bytes
 present-back v z e f = rw e (λ s at h. let m = marked-back 1 (bits_of 32 z) h in rw (m.0, number-back (bits_of 32 z) (bits_fit w32 z f) s (at + 1) m.1, bits_back w32 z f))
 
@@ -105,13 +103,13 @@ unfolding entry_bytes marked
 entry-long e = ap suc (number-long e.count)
 
 -- slots, as many as there are
-pub slots-back : (n : ℕ) (slots : List Slot) → length slots ≡ n → ((j : ℕ) → j < n → Back value_at (value_bytes (get_or slots j (slot Absent)).value) (get_or slots j (slot Absent)).value) → Back (slots_at n) (slots_bytes slots) slots
+pub slots-back : (n : ℕ) (slots : List Value) → length slots ≡ n → ((j : ℕ) → j < n → Back value_at (value_bytes (get_or slots j None)) (get_or slots j None)) → Back (slots_at n) (slots_bytes slots) slots
 unfolding slots_at slots_bytes
 slots-back zero [] l r s at h = refl
 slots-back zero (x ∷ xs) l r s at h = absurd (omega arith)
 slots-back (suc n) [] l r s at h = absurd (omega arith)
 slots-back (suc n) (x ∷ xs) l r s at h =
-    let y = cut (value-long x.value) h in
+    let y = cut (value-long x) h in
     rw (r 0 (omega arith) s at y.0, slots-back n xs (omega arith) (λ j q. r (suc j) (omega arith)) s (at + 5) y.1)
 
 -- structs, field by field

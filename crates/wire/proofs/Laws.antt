@@ -11,11 +11,9 @@ use Rattle.codec.specs.Output.{Outcome, writes}
 use Rattle.codec.specs.Signed.{bits_of, signed_of}
 use Rattle.codec.proofs.Laws.BigEndian.{bytes-length, four_bytes_lem}
 use Rattle.codec.proofs.Laws.Output.{sets-append}
-use Rattle.voting.specs.declared.table.Value.{Value}
-use Rattle.voting.specs.declared.table.Value.TheVariants.{Absent, Number}
-use Rattle.voting.specs.declared.table.Slot.{Slot}
+use Rattle.voting.specs.Value.{Value}
+use Rattle.std.specs.Prelude.{None, Some}
 use Rattle.voting.specs.declared.tally.Entry.{Entry}
-use Rattle.voting.specs.Table.{slot}
 use Rattle.wire.specs.Put.{Put}
 use Rattle.wire.specs.Numbers.{bytes_at, number_bytes, number_at, four_bytes}
 use Rattle.wire.specs.Values.{marked, value_bytes, value_of, value_at, slots_bytes, slots_at, entry_bytes}
@@ -41,61 +39,61 @@ unfolding marked
 mark-put mark n {at = at} e p = record { is = p.is ∙ rw (e, add-one at); long = ap suc p.long }
 
 -- a value's bytes
-pub absent-bytes : (v : Value) → v ≡ Absent → marked 0 0 ≡ value_bytes v
+pub absent-bytes : (v : Value) → v ≡ None → marked 0 0 ≡ value_bytes v
 unfolding value_bytes
 absent-bytes v e = rw e
 
-pub number-bytes : (v : Value) (z : ℤ) (b : ℕ) → v ≡ Number z → b ≡ bits_of 32 z → marked 1 b ≡ value_bytes v
+pub number-bytes : (v : Value) (z : ℤ) (b : ℕ) → v ≡ Some z → b ≡ bits_of 32 z → marked 1 b ≡ value_bytes v
 unfolding value_bytes
 number-bytes v z b e q = rw (e, q)
 
 -- a value read
 module _ (bytes : List ℕ) (at present n : ℕ) (p : present ≡ get_or bytes at 0) (q : n ≡ number_at bytes (at + 1)) where
-  pub value-absent : present ≡ 0 → Absent ≡ value_at bytes at
+  pub value-absent : present ≡ 0 → None ≡ value_at bytes at
   unfolding value_at value_of
   value-absent h = rw (← p, h)
 
-  pub value-number : (present ≡ 0 → ⊥) → (z : ℤ) → z ≡ signed_of 32 n → Number z ≡ value_at bytes at
+  pub value-number : (present ≡ 0 → ⊥) → (z : ℤ) → z ≡ signed_of 32 n → Some z ≡ value_at bytes at
   unfolding value_at value_of
   value-number h z e = rw (← p, ← q, e) (go present h)
     where
-      go : (f : ℕ) → (f ≡ 0 → ⊥) → Number (signed_of 32 n) ≡ value_of f n
+      go : (f : ℕ) → (f ≡ 0 → ⊥) → Some (signed_of 32 n) ≡ value_of f n
       go zero h = absurd (h refl)
       go (suc f) h = refl
 
 -- every value has five bytes
 pub value-long : (v : Value) → length (value_bytes v) ≡ 5
 unfolding value_bytes marked number_bytes
-value-long Absent = ap suc (bytes-length 4 0)
-value-long (Number z) = ap suc (bytes-length 4 (bits_of 32 z))
+value-long None = ap suc (bytes-length 4 0)
+value-long (Some z) = ap suc (bytes-length 4 (bits_of 32 z))
 
 -- slots put: one, and then the others; all of them
-pub slots-put : (slots : List Slot) (i : ℕ) → i < length slots → {out out' : List ℕ} {k : ℕ} → Put 5 k (value_bytes (get_or slots i (slot Absent)).value) out out' → sets out' (k + 5) (slots_bytes (drop (i + 1) slots)) ≡ sets out k (slots_bytes (drop i slots))
+pub slots-put : (slots : List Value) (i : ℕ) → i < length slots → {out out' : List ℕ} {k : ℕ} → Put 5 k (value_bytes (get_or slots i None)) out out' → sets out' (k + 5) (slots_bytes (drop (i + 1) slots)) ≡ sets out k (slots_bytes (drop i slots))
 unfolding slots_bytes
-slots-put slots i h p = rw (drop-cons slots i (slot Absent) h, add-one i) (behind p (slots_bytes (drop (suc i) slots)))
+slots-put slots i h p = rw (drop-cons slots i None h, add-one i) (behind p (slots_bytes (drop (suc i) slots)))
 
-pub slots-long : (slots : List Slot) → length (slots_bytes slots) ≡ 5 * length slots
+pub slots-long : (slots : List Value) → length (slots_bytes slots) ≡ 5 * length slots
 unfolding slots_bytes
 slots-long [] = refl
-slots-long (s ∷ ss) = rw (length-append (value_bytes s.value) (slots_bytes ss), value-long s.value, slots-long ss) (omega arith)
+slots-long (s ∷ ss) = rw (length-append (value_bytes s) (slots_bytes ss), value-long s, slots-long ss) (omega arith)
 
-pub all-put : (slots : List Slot) {out out' : List ℕ} {at : ℕ} (k i : ℕ) → length slots ≡ 9 → 9 ≤ i → sets out' k (slots_bytes (drop i slots)) ≡ sets out at (slots_bytes slots) → Put 45 at (slots_bytes slots) out out'
+pub all-put : (slots : List Value) {out out' : List ℕ} {at : ℕ} (k i : ℕ) → length slots ≡ 9 → 9 ≤ i → sets out' k (slots_bytes (drop i slots)) ≡ sets out at (slots_bytes slots) → Put 45 at (slots_bytes slots) out out'
 unfolding slots_bytes
 all-put slots {out} {out'} {at} k i l h e =
     let g : length slots ≤ i = omega arith in
     record { is = sym (none (drop i slots) (drop_of_length-le slots g)) ∙ e; long = slots-long slots ∙ ap (λ (n : ℕ). 5 * n) l }
   where
-    none : (left : List Slot) → left ≡ [] → sets out' k (slots_bytes left) ≡ out'
+    none : (left : List Value) → left ≡ [] → sets out' k (slots_bytes left) ≡ out'
     none left q = rw q
 
 -- slots read: one, and then the others
-pub slots-more : (slots : List Slot) (i k : ℕ) (bytes : List ℕ) (v : Value) → i < 9 → v ≡ value_at bytes k → sets (set slots i (slot v)) (i + 1) (slots_at (9 - (i + 1)) bytes (k + 5)) ≡ sets slots i (slots_at (9 - i) bytes k)
+pub slots-more : (slots : List Value) (i k : ℕ) (bytes : List ℕ) (v : Value) → i < 9 → v ≡ value_at bytes k → sets (set slots i v) (i + 1) (slots_at (9 - (i + 1)) bytes (k + 5)) ≡ sets slots i (slots_at (9 - i) bytes k)
 unfolding slots_at
 slots-more slots i k bytes v h q =
     let e : 9 - i ≡ suc (9 - (i + 1)) = omega arith in
     rw (e, q, add-one i)
 
-pub slots_read : (slots : List Slot) (i k : ℕ) (bytes : List ℕ) → 9 ≤ i → sets slots i (slots_at (9 - i) bytes k) ≡ slots
+pub slots_read : (slots : List Value) (i k : ℕ) (bytes : List ℕ) → 9 ≤ i → sets slots i (slots_at (9 - i) bytes k) ≡ slots
 unfolding slots_at
 slots_read slots i k bytes h = let e : 9 - i ≡ 0 = omega arith in rw e
 

@@ -18,10 +18,8 @@ use Rattle.codec.specs.BigEndian.{big_endian_bytes}
 use Rattle.codec.specs.Signed.{bits_of}
 use Rattle.codec.proofs.Laws.BigEndian.{number-back}
 use Rattle.codec.proofs.Laws.Output as output
-use Rattle.voting.specs.Table.{slot}
-use Rattle.voting.specs.declared.table.Slot.{Slot}
-use Rattle.voting.specs.declared.table.Value.{Value}
-use Rattle.voting.specs.declared.table.Value.TheVariants.{Absent, Number}
+use Rattle.voting.specs.Value.{Value}
+use Rattle.std.specs.Prelude.{None, Some}
 use Rattle.voting.proofs.Laws.Tests.{by-test}
 use Rattle.extension.specs.declared.parameters.ParameterMap.{ParameterMap}
 use Rattle.extension.specs.Parameters.{no_parameters, entry_of, store, number_in}
@@ -32,16 +30,16 @@ use Rattle.wire.specs.Map.{present_bytes, present_from, map_bytes, map_in, map_o
 
 -- the bytes of one id
 module _ (id : ℕ) where
-  pub present-none : (v : Value) → v ≡ Absent → present_bytes id v ≡ []
+  pub present-none : (v : Value) → v ≡ None → present_bytes id v ≡ []
   unfolding present_bytes
   present-none v e = rw e
 
-  pub present-five : (v : Value) (x : ℤ) → v ≡ Number x → 5 ≡ length (present_bytes id v)
+  pub present-five : (v : Value) (x : ℤ) → v ≡ Some x → 5 ≡ length (present_bytes id v)
   unfolding present_bytes marked number_bytes big_endian_bytes
   present-five v x e = rw e
 
   -- the four bytes b of the number, stored one by one
-  pub present-stored : (v : Value) (x : ℤ) → SFits w32 x → v ≡ Number x → {b : List ℕ} → b ≡ big_endian_bytes 4 (bits_of 32 (to_z w32 (of_z w32 x))) → (cells : List ℕ) (at : ℕ)
+  pub present-stored : (v : Value) (x : ℤ) → SFits w32 x → v ≡ Some x → {b : List ℕ} → b ≡ big_endian_bytes 4 (bits_of 32 (to_z w32 (of_z w32 x))) → (cells : List ℕ) (at : ℕ)
       → sets cells at (id ∷ get_or b 0 0 ∷ get_or b 1 0 ∷ get_or b 2 0 ∷ get_or b 3 0 ∷ []) ≡ sets cells at (present_bytes id v)
   unfolding present_bytes marked number_bytes big_endian_bytes
   present-stored v x f e {b} p cells at =
@@ -50,8 +48,8 @@ module _ (id : ℕ) where
 
   pub present-most : (v : Value) → length (present_bytes id v) ≤ 5
   unfolding present_bytes marked number_bytes big_endian_bytes
-  present-most Absent = omega arith
-  present-most (Number x) = omega arith
+  present-most None = omega arith
+  present-most (Some x) = omega arith
 
 -- the ids from one on: none, or one and then the others
 module _ (m : ParameterMap) (id : ℕ) where
@@ -122,35 +120,35 @@ module _ (bytes : List ℕ) (m : ParameterMap) (at : ℕ) where
 
 -- the entries after the bytes of one id were read
 abbrev stored : ℕ → Value → ParameterMap → ParameterMap
-stored id Absent m = m
-stored id (Number z) m = store m id (Number z)
+stored id None m = m
+stored id (Some z) m = store m id (Some z)
 
 one_in : (id : ℕ) (z : ℤ) (rest : List ℕ) (m : ParameterMap)
-    → map_in (present_bytes id (Number z) ++ rest) m ≡ map_in rest (store m id (number_in (big_endian_bytes 4 (bits_of 32 z))))
+    → map_in (present_bytes id (Some z) ++ rest) m ≡ map_in rest (store m id (number_in (big_endian_bytes 4 (bits_of 32 z))))
 unfolding map_in present_bytes marked number_bytes big_endian_bytes
 one_in id z rest m = refl
 
-number-in : (z : ℤ) → SFits w32 z → number_in (big_endian_bytes 4 (bits_of 32 z)) ≡ Number z
+number-in : (z : ℤ) → SFits w32 z → number_in (big_endian_bytes 4 (bits_of 32 z)) ≡ Some z
 unfolding number_in
-number-in z f = ap Number (number-back z f)
+number-in z f = ap Some (number-back z f)
 
 present-in : (id : ℕ) (v : Value) (rest : List ℕ) (m : ParameterMap) → Held v → map_in (present_bytes id v ++ rest) m ≡ map_in rest (stored id v m)
-present-in id Absent rest m f = ap (λ (s : List ℕ). map_in (s ++ rest) m) (present-none id Absent refl)
-present-in id (Number z) rest m f = one_in id z rest m ∙ ap (λ (v : Value). map_in rest (store m id v)) (number-in z f)
+present-in id None rest m f = ap (λ (s : List ℕ). map_in (s ++ rest) m) (present-none id None refl)
+present-in id (Some z) rest m f = one_in id z rest m ∙ ap (λ (v : Value). map_in rest (store m id v)) (number-in z f)
 
 stored-length : (id : ℕ) (v : Value) (m : ParameterMap) → length (stored id v m).entries ≡ length m.entries
-stored-length id Absent m = refl
-stored-length id (Number z) m = length-set m.entries id (slot (Number z))
+stored-length id None m = refl
+stored-length id (Some z) m = length-set m.entries id (Some z)
 
 stored_other : (id at : ℕ) (v : Value) (m : ParameterMap) → (at ≡ id → ⊥) → entry_of (stored id v m) at ≡ entry_of m at
 unfolding entry_of
-stored_other id at Absent m n = refl
-stored_other id at (Number z) m n = ap (λ (s : Slot). s.value) (get_or-set_other m.entries id at (slot (Number z)) (slot Absent) n)
+stored_other id at None m n = refl
+stored_other id at (Some z) m n = (get_or-set_other m.entries id at (Some z) None n)
 
-stored_same : (id : ℕ) (v : Value) (m : ParameterMap) → id < length m.entries → entry_of m id ≡ Absent → entry_of (stored id v m) id ≡ v
+stored_same : (id : ℕ) (v : Value) (m : ParameterMap) → id < length m.entries → entry_of m id ≡ None → entry_of (stored id v m) id ≡ v
 unfolding entry_of
-stored_same id Absent m h e = e
-stored_same id (Number z) m h e = ap (λ (s : Slot). s.value) (get_or-set_same m.entries id (slot (Number z)) (slot Absent) h)
+stored_same id None m h e = e
+stored_same id (Some z) m h e = (get_or-set_same m.entries id (Some z) None h)
 
 -- an id below the n ids from one on keeps its entry; one among them gets the entry that was written
 module _ (m : ParameterMap) (held : Sound m) (id : ℕ) where
@@ -162,7 +160,7 @@ module _ (m : ParameterMap) (held : Sound m) (id : ℕ) where
       passed n (from + 1) (stored from (entry_of m from) a) (omega arith) ∙
       stored_other from id (entry_of m from) a (λ e. omega arith)
 
-  reached : (n from : ℕ) (a : ParameterMap) → from ≤ id → id < from + n → id < length a.entries → entry_of a id ≡ Absent
+  reached : (n from : ℕ) (a : ParameterMap) → from ≤ id → id < from + n → id < length a.entries → entry_of a id ≡ None
       → entry_of (map_in (present_from n from m) a) id ≡ entry_of m id
   unfolding present_from
   reached zero from a f h l e = absurd (omega arith)
@@ -176,13 +174,13 @@ module _ (m : ParameterMap) (held : Sound m) (id : ℕ) where
       (λ t. let q = eqb-false id from t in
       reached n (from + 1) next (omega arith) (omega arith) (omega (arith, stored-length from (entry_of m from) a)) (stored_other from id (entry_of m from) a q ∙ e))
 
-no-entry : (id : ℕ) → id < 256 → entry_of no_parameters id ≡ Absent
+no-entry : (id : ℕ) → id < 256 → entry_of no_parameters id ≡ None
 unfolding entry_of no_parameters
-no-entry id h = rw (get_or-replicate 256 id (slot Absent) (slot Absent) h)
+no-entry id h = rw (get_or-replicate {A = Value} 256 id None None h)
 
 no_length : length no_parameters.entries ≡ 256
 unfolding no_parameters
-no_length = length-replicate 256 (slot Absent)
+no_length = length-replicate {A = Value} 256 None
 
 pub map_back : (m : ParameterMap) → Sound m → MapBack m
 unfolding map_of map_bytes

@@ -1,17 +1,16 @@
 -- The parameters of a body in bytes: 5 for each id that is present. docs/VECTORS.md, "Bytes".
 -- Assumes nothing.
-use Rattle.std.specs.Prelude.{ℕ, zero, suc, ◌+◌, ◌≤◌, ◌≡◌, List, [], ◌∷◌, ◌++◌}
+use Rattle.std.specs.Prelude.{ℕ, zero, suc, ◌+◌, ◌≤◌, ◌≡◌, List, [], ◌∷◌, ◌++◌, None, Some}
 use Rattle.codec.specs.Signed.{bits_of}
-use Rattle.voting.specs.declared.table.Value.{Value}
-use Rattle.voting.specs.declared.table.Value.TheVariants.{Absent, Number}
+use Rattle.voting.specs.Value.{Value}
 use Rattle.extension.specs.declared.parameters.ParameterMap.{ParameterMap}
 use Rattle.extension.specs.Parameters.{no_parameters, entry_of, store, number_in}
 use Rattle.wire.specs.Values.{marked}
 
 -- the id's byte and the number's bits; nothing of an id that is absent
 unfoldable pub present_bytes : ℕ → Value → List ℕ
-present_bytes id Absent = []
-present_bytes id (Number z) = marked id (bits_of 32 z)
+present_bytes id None = []
+present_bytes id (Some z) = marked id (bits_of 32 z)
 
 -- n ids from one on
 unfoldable pub present_from : ℕ → ℕ → ParameterMap → List ℕ

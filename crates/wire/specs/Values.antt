@@ -1,16 +1,14 @@
 -- Values, tables, settings and tallies in bytes, at a position. docs/VECTORS.md, "Bytes".
 -- Assumes nothing.
-use Rattle.std.specs.Prelude.{ℕ, zero, suc, ◌+◌, List, [], ◌∷◌, ◌++◌, get_or}
+use Rattle.std.specs.Prelude.{ℕ, zero, suc, ◌+◌, List, [], ◌∷◌, ◌++◌, get_or, None, Some}
 use Rattle.codec.specs.Signed.{bits_of, signed_of}
 use Rattle.voting.specs.declared.settings.VotingConfig.{VotingConfig}
-use Rattle.voting.specs.declared.table.Value.{Value}
-use Rattle.voting.specs.declared.table.Value.TheVariants.{Absent, Number}
-use Rattle.voting.specs.declared.table.Slot.{Slot}
+use Rattle.voting.specs.Value.{Value}
 use Rattle.voting.specs.declared.table.Fork.{Fork}
 use Rattle.voting.specs.declared.table.Table.{Table}
 use Rattle.voting.specs.declared.tally.Entry.{Entry}
 use Rattle.voting.specs.declared.tally.Tally.{Tally}
-use Rattle.voting.specs.Table.{slot, fork_entries}
+use Rattle.voting.specs.Table.{fork_entries}
 use Rattle.voting.specs.Settings.{settings, voting_length, vote_epochs, activation_epochs, version2_height}
 use Rattle.wire.specs.Numbers.{number_at, number_bytes, four_bytes}
 
@@ -20,24 +18,24 @@ marked mark n = mark ∷ number_bytes n
 
 -- a value: 5 bytes, 0 and four zeros, or 1 and the number; read, any first byte but 0 is a number
 unfoldable pub value_bytes : Value → List ℕ
-value_bytes Absent = marked 0 0
-value_bytes (Number z) = marked 1 (bits_of 32 z)
+value_bytes None = marked 0 0
+value_bytes (Some z) = marked 1 (bits_of 32 z)
 
 unfoldable pub value_of : ℕ → ℕ → Value
-value_of zero n = Absent
-value_of (suc f) n = Number (signed_of 32 n)
+value_of zero n = None
+value_of (suc f) n = Some (signed_of 32 n)
 
 unfoldable pub value_at : List ℕ → ℕ → Value
 value_at bytes at = value_of (get_or bytes at 0) (number_at bytes (at + 1))
 
 -- slots, one after another
-unfoldable pub slots_bytes : List Slot → List ℕ
+unfoldable pub slots_bytes : List Value → List ℕ
 slots_bytes [] = []
-slots_bytes (s ∷ ss) = value_bytes s.value ++ slots_bytes ss
+slots_bytes (s ∷ ss) = value_bytes s ++ slots_bytes ss
 
-unfoldable pub slots_at : ℕ → List ℕ → ℕ → List Slot
+unfoldable pub slots_at : ℕ → List ℕ → ℕ → List Value
 slots_at zero bytes at = []
-slots_at (suc n) bytes at = slot (value_at bytes at) ∷ slots_at n bytes (at + 5)
+slots_at (suc n) bytes at = value_at bytes at ∷ slots_at n bytes (at + 5)
 
 -- the fork entries: 15 bytes
 unfoldable pub fork_bytes : Fork → List ℕ

@@ -21,7 +21,7 @@ pub fn map_of(bytes: &[u8]) -> ParameterMap
     while PRESENT_SIZE <= bytes.len() - at {
         let number = [bytes[at + 1], bytes[at + 2], bytes[at + 3], bytes[at + 4]];
         let z = big_endian::i32_from_be_bytes(number);
-        m = m.with(bytes[at], Value::Number(z));
+        m = m.with(bytes[at], Some(z));
         at += PRESENT_SIZE;
     }
     m
@@ -56,8 +56,8 @@ fn present_size(id: u8, v: Value) -> usize
     ensures { result ≡ length (present_bytes id v) }
 {
     match v {
-        Value::Absent => 0,
-        Value::Number(_) => PRESENT_SIZE,
+        None => 0,
+        Some(_) => PRESENT_SIZE,
     }
 }
 
@@ -78,8 +78,8 @@ fn put_present(out: &mut [u8], at: usize, id: u8, v: Value)
     ensures { out.new ≡ sets out.old at (present_bytes id v) }
 {
     match v {
-        Value::Absent => {}
-        Value::Number(z) => {
+        None => {}
+        Some(z) => {
             let b = big_endian::i32_to_be_bytes(z);
             output::put_bytes(out, at, &[id, b[0], b[1], b[2], b[3]]);
         }

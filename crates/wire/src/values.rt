@@ -8,7 +8,7 @@ use crate::numbers;
 use codec::output::Wrote;
 use codec::{output, signed};
 use voting::settings::VotingConfig;
-use voting::table::{Fork, Slot, Table, Value};
+use voting::table::{Fork, Table, Value};
 use voting::tally::{Entry, Tally};
 
 pub fn value_of(bytes: &[u8]) -> Value
@@ -82,24 +82,21 @@ fn value_at(bytes: &[u8], at: usize) -> Value
     let present = numbers::byte_at(bytes, at);
     let n = numbers::u32_at(bytes, at + 1);
     if present == 0 {
-        return Value::Absent;
+        return None;
     }
     let z = signed::i32_of(n);
-    Value::Number(z)
+    Some(z)
 }
 
-fn slots_at(bytes: &[u8], at: usize) -> [Slot; 9]
+fn slots_at(bytes: &[u8], at: usize) -> [Value; 9]
     requires { at ≤ 3000 }
     ensures { result ≡ slots_at 9 bytes.now at }
 {
-    let mut slots = [Slot {
-        value: Value::Absent,
-    }; 9];
+    let mut slots = [None; 9];
     let mut k = at;
     let mut i: usize = 0;
     while i < 9 {
-        let value = value_at(bytes, k);
-        slots[i] = Slot { value };
+        slots[i] = value_at(bytes, k);
         k += 5;
         i += 1;
     }
@@ -179,16 +176,16 @@ fn put_value(out: &mut [u8], at: usize, v: Value)
     ensures back { Back value_at (value_bytes v) v }
 {
     match v {
-        Value::Absent => {
+        None => {
             put_marked(out, at, 0, 0);
         }
-        Value::Number(z) => {
+        Some(z) => {
             put_marked(out, at, 1, signed::bits_i32(z));
         }
     }
 }
 
-fn put_slots(out: &mut [u8], at: usize, slots: [Slot; 9])
+fn put_slots(out: &mut [u8], at: usize, slots: [Value; 9])
     requires { at ≤ 3000 }
     ensures put { Put 45 at (slots_bytes slots) out.old out.new }
     ensures back { Back (slots_at 9) (slots_bytes slots) slots }
@@ -196,9 +193,7 @@ fn put_slots(out: &mut [u8], at: usize, slots: [Slot; 9])
     let mut k = at;
     let mut i: usize = 0;
     while i < 9 {
-        let s = slots[i];
-        let v = s.value;
-        put_value(out, k, v);
+        put_value(out, k, slots[i]);
         k += 5;
         i += 1;
     }

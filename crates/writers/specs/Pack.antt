@@ -1,12 +1,11 @@
 -- Bodies and parameters written, and read back. docs/RULES.md, "Writers and rest". What a body's bytes are and what is refused stands in
 -- crates/extension/specs/Pack.antt.
 -- Assumes nothing.
-use Rattle.std.specs.Prelude.{◌≡◌, ℕ, zero, suc, ◌+◌, ◌%◌, ◌≤◌, cond, List, [], ◌∷◌, ◌++◌, ℤ, ◌==◌}
+use Rattle.std.specs.Prelude.{◌≡◌, ℕ, zero, suc, ◌+◌, ◌%◌, ◌≤◌, cond, List, [], ◌∷◌, ◌++◌, ℤ, ◌==◌, None, Some}
 use Rattle.codec.specs.Signed.{bits_of}
 use Rattle.codec.specs.BigEndian.{big_endian_bytes}
 use Rattle.codec.specs.Output.{Outcome, writing, writes}
-use Rattle.voting.specs.declared.table.Value.{Value}
-use Rattle.voting.specs.declared.table.Value.TheVariants.{Absent, Number}
+use Rattle.voting.specs.Value.{Value}
 use Rattle.extension.specs.declared.parameters.ParameterMap.{ParameterMap}
 use Rattle.extension.specs.Section.{items}
 use Rattle.extension.specs.Body.{extension_of, fields_of, header_id, check_body}
@@ -28,8 +27,8 @@ number_bytes id z = 0 ∷ id ∷ 4 ∷ big_endian_bytes 4 (bits_of 32 z)
 
 -- 124 is dropped
 unfoldable pub entry_bytes : ℕ → Value → List ℕ
-entry_bytes id Absent = []
-entry_bytes id (Number z) = cond (id == 124) [] (number_bytes id z)
+entry_bytes id None = []
+entry_bytes id (Some z) = cond (id == 124) [] (number_bytes id z)
 
 -- n ids from one on; 0 follows 255
 unfoldable pub entries_from : ℕ → ℕ → ParameterMap → List ℕ
@@ -48,4 +47,4 @@ pub record ParametersBack (m : ParameterMap) (header : List ℕ) : Type 0 where
   pub packs : pack_refusal (wire_fields (parameter_bytes m)) ≡ 0
   pub checked : (check_body (packed header (parameter_bytes m))).refusal ≡ 0
   pub read : (parameters_of (packed header (parameter_bytes m))).refusal ≡ 0
-  pub same : (id : ℕ) → id ≤ 255 → entry_of (parameters_of (packed header (parameter_bytes m))).map id ≡ cond (id == 124) Absent (entry_of m id)
+  pub same : (id : ℕ) → id ≤ 255 → entry_of (parameters_of (packed header (parameter_bytes m))).map id ≡ cond (id == 124) None (entry_of m id)

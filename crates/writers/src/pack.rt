@@ -134,8 +134,8 @@ fn entry_size(id: u8, value: Value) -> usize
     ensures { result ≡ length (entry_bytes id value) }
 {
     match value {
-        Value::Absent => 0,
-        Value::Number(_) => {
+        None => 0,
+        Some(_) => {
             if id == body::ID_SOFT_FORK_DISABLING_RULES {
                 0
             } else {
@@ -164,8 +164,8 @@ fn put_entry(out: &mut [u8], at: usize, id: u8, value: Value)
     ensures { out.new ≡ sets out.old at (entry_bytes id value) }
 {
     match value {
-        Value::Absent => {}
-        Value::Number(x) => {
+        None => {}
+        Some(x) => {
             if id == body::ID_SOFT_FORK_DISABLING_RULES {
                 return;
             }

@@ -11,7 +11,7 @@ use lib.IntN.{pos}
 use lib.ListN.{length, take}
 use Rattle.codec.specs.Refusal.{setting_large, voting_length_zero, record_malformed, height_unexpected}
 use Rattle.voting.specs.declared.settings.VotingConfig.{VotingConfig}
-use Rattle.voting.specs.declared.table.Value.TheVariants.{Absent, Number}
+use Rattle.std.specs.Prelude.{None, Some}
 use Rattle.voting.specs.declared.table.Table.{Table}
 use Rattle.voting.specs.declared.tally.Tally.{Tally}
 use Rattle.voting.specs.declared.table.Fork.{Fork}
@@ -324,7 +324,7 @@ goes_on g s e (xs ∷ calls) =
 
 -- ---- the theorem
 
-opening : (s : Replay) (version : ℕ) → s.settings ≡ mainnet → s.next % voting_length mainnet ≡ 0 → s.tally ≡ no_tally → version ≤ 255 → s.table.fork ≡ fork_entries Absent Absent (Number (pos version))
+opening : (s : Replay) (version : ℕ) → s.settings ≡ mainnet → s.next % voting_length mainnet ≡ 0 → s.tally ≡ no_tally → version ≤ 255 → s.table.fork ≡ fork_entries None None (Some (pos version))
     → Opening mainnet (interface mainnet) (core s) version []
 unfolding mainnet counted counted_for first_votes headers first_count entries entry eq_z
 opening s version e m y v f =
@@ -336,7 +336,7 @@ opening s version e m y v f =
     none : counted [] ≤ voting_length mainnet
     none = omega arith
 
-pub kept : (s : Replay) (version : ℕ) → s.settings ≡ mainnet → s.next % voting_length mainnet ≡ 0 → s.tally ≡ no_tally → version ≤ 255 → s.table.fork ≡ fork_entries Absent Absent (Number (pos version))
+pub kept : (s : Replay) (version : ℕ) → s.settings ≡ mainnet → s.next % voting_length mainnet ≡ 0 → s.tally ≡ no_tally → version ≤ 255 → s.table.fork ≡ fork_entries None None (Some (pos version))
     → (calls : List (List ℕ)) → Kept s version calls
 kept s version e m y v f calls =
     let a = goes_on mainnet s e calls in

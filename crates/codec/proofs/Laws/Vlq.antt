@@ -4,7 +4,7 @@ use Rattle.std.proofs.Common.{◌≡◌, ℕ, zero, suc, ◌+◌, ◌-◌, ◌*�
 use lib.Seq.{sets}
 use Rattle.codec.specs.Vlq.{Found, found, unreadable, continued, byte, number_of, low64, below, placed, shortest_of}
 use Rattle.codec.specs.declared.vlq.Number.{Number}
-use Rattle.codec.specs.declared.vlq.Read.TheVariants.{Value, Unreadable}
+use Rattle.std.specs.Prelude.{Some, None}
 
 no_bytes : (n : ℕ) → number_of n [] ≡ unreadable
 unfolding number_of
@@ -22,8 +22,8 @@ at_byte s at (suc n) h f = rw (drop-cons s at 0 h, sub-one, add-one)
 
 -- a byte that continues, before a number of which 64 bits were kept
 module _ (at b : ℕ) where
-  continues : (m : Number) (g : Found) → Value m ≡ placed (at + 1) (low64 g)
-      → Value (record { value = (m.value % 0x200_0000_0000_0000) * 128 + b % 128; next = m.next }) ≡ placed at (low64 (continued b g))
+  continues : (m : Number) (g : Found) → Some m ≡ placed (at + 1) (low64 g)
+      → Some (record { value = (m.value % 0x200_0000_0000_0000) * 128 + b % 128; next = m.next }) ≡ placed at (low64 (continued b g))
   unfolding placed low64 continued
   continues m (found v n) e =
       let ev : m.value ≡ v % 2 ^ 64 = cc in
@@ -33,51 +33,51 @@ module _ (at b : ℕ) where
       rw (ew, el)
   continues m unreadable e = absurd (let z : ◌≡◌ {A = ℕ} 0 1 = cc in omega arith)
 
-  stays-unreadable : (g : Found) → Unreadable ≡ placed (at + 1) (low64 g) → Unreadable ≡ placed at (low64 (continued b g))
+  stays-unreadable : (g : Found) → None ≡ placed (at + 1) (low64 g) → None ≡ placed at (low64 (continued b g))
   unfolding placed low64 continued
   stays-unreadable (found v n) e = absurd (let z : ◌≡◌ {A = ℕ} 0 1 = cc in omega arith)
   stays-unreadable unreadable e = refl
 
 -- what a read at a position answers, by the byte there
 module _ (s : List ℕ) (at n : ℕ) where
-  pub none : n ≡ 0 → Unreadable ≡ placed at (low64 (number_of n (drop at s)))
+  pub none : n ≡ 0 → None ≡ placed at (low64 (number_of n (drop at s)))
   unfolding placed low64 number_of
   none e = rw e
 
-  pub end : length s ≤ at → Unreadable ≡ placed at (low64 (number_of n (drop at s)))
+  pub end : length s ≤ at → None ≡ placed at (low64 (number_of n (drop at s)))
   unfolding placed low64
   end h = rw (at-end s at n h)
 
   module _ (h : at < length s) (f : n ≡ 0 → ⊥) where
-    pub last : get_or s at 0 < 128 → Value (record { value = get_or s at 0; next = at + 1 }) ≡ placed at (low64 (number_of n (drop at s)))
+    pub last : get_or s at 0 < 128 → Some (record { value = get_or s at 0; next = at + 1 }) ≡ placed at (low64 (number_of n (drop at s)))
     unfolding placed low64 byte
     last l =
         let e : get_or s at 0 % 2 ^ 64 ≡ get_or s at 0 = omega arith in
         rw (at_byte s at n h f, lt-ltb _ _ l, e)
 
     module _ (l : 128 ≤ get_or s at 0) where
-      pub more : (m : Number) → Value m ≡ placed (at + 1) (low64 (number_of (n - 1) (drop (at + 1) s)))
-          → Value (record { value = (m.value % 0x200_0000_0000_0000) * 128 + get_or s at 0 % 128; next = m.next }) ≡ placed at (low64 (number_of n (drop at s)))
+      pub more : (m : Number) → Some m ≡ placed (at + 1) (low64 (number_of (n - 1) (drop (at + 1) s)))
+          → Some (record { value = (m.value % 0x200_0000_0000_0000) * 128 + get_or s at 0 % 128; next = m.next }) ≡ placed at (low64 (number_of n (drop at s)))
       unfolding byte
       more m e = rw (at_byte s at n h f, le-ltb _ _ l) (continues at (get_or s at 0) m _ e)
 
-      pub stops : Unreadable ≡ placed (at + 1) (low64 (number_of (n - 1) (drop (at + 1) s))) → Unreadable ≡ placed at (low64 (number_of n (drop at s)))
+      pub stops : None ≡ placed (at + 1) (low64 (number_of (n - 1) (drop (at + 1) s))) → None ≡ placed at (low64 (number_of n (drop at s)))
       unfolding byte
       stops e = rw (at_byte s at n h f, le-ltb _ _ l) (stays-unreadable at (get_or s at 0) _ e)
 
 -- a number that must be below a limit: the fact that every width shares
 module _ (at limit : ℕ) where
-  pub fits : (m : Number) (g : Found) → Value m ≡ placed at g → m.value < limit → Value m ≡ placed at (below limit g)
+  pub fits : (m : Number) (g : Found) → Some m ≡ placed at g → m.value < limit → Some m ≡ placed at (below limit g)
   unfolding placed below
   fits m (found v n) e h = let ev : m.value ≡ v = cc in rw (lt-ltb v limit (rw ev at h)) e
   fits m unreadable e h = e
 
-  pub over : (m : Number) (g : Found) → Value m ≡ placed at g → limit ≤ m.value → Unreadable ≡ placed at (below limit g)
+  pub over : (m : Number) (g : Found) → Some m ≡ placed at g → limit ≤ m.value → None ≡ placed at (below limit g)
   unfolding placed below
   over m (found v n) e h = let ev : m.value ≡ v = cc in rw (le-ltb v limit (rw ev at h))
   over m unreadable e h = refl
 
-  pub unread : (g : Found) → Unreadable ≡ placed at g → Unreadable ≡ placed at (below limit g)
+  pub unread : (g : Found) → None ≡ placed at g → None ≡ placed at (below limit g)
   unfolding placed below
   unread (found v n) e = absurd (let z : ◌≡◌ {A = ℕ} 0 1 = cc in omega arith)
   unread unreadable e = refl

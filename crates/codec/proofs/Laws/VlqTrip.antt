@@ -4,7 +4,7 @@ use Rattle.std.proofs.Common.{◌≡◌, ℕ, zero, suc, ◌+◌, ◌-◌, ◌*�
 use native.Mathlib.Nat.{mod-le}
 use Rattle.codec.specs.Vlq.{Found, found, unreadable, continued, byte, number_of, low64, below, vlq_of, placed, vlq_at, shortest_of, vlq_bytes, Shortest}
 use Rattle.codec.specs.declared.vlq.Number.{Number}
-use Rattle.codec.specs.declared.vlq.Read.TheVariants.{Value}
+use Rattle.std.specs.Prelude.{Some}
 
 -- a number of one byte, and a number of one byte more
 short : (n x : ℕ) (t : List ℕ) → x < 128 → number_of (suc n) (shortest_of (suc n) x ++ t) ≡ found x (length (shortest_of (suc n) x))
@@ -37,7 +37,7 @@ written_read width x t w h =
 
 -- the same at a position, with the position after it
 pub written-read-at : (width x at : ℕ) (s t : List ℕ) → width ≤ 64 → x < 2 ^ width → drop at s ≡ vlq_bytes x ++ t
-    → vlq_at width s at ≡ Value (record { value = x; next = at + length (vlq_bytes x) })
+    → vlq_at width s at ≡ Some (record { value = x; next = at + length (vlq_bytes x) })
 unfolding vlq_at placed
 written-read-at width x at s t w h e = rw (e, written_read width x t w h)
 
@@ -134,11 +134,11 @@ under-limit limit (found v n) = go (ltb v limit) refl
     go false e = tt
 under-limit limit unreadable = tt
 
-pub read-inside : (width at : ℕ) (s : List ℕ) (m : Number) → Value m ≡ vlq_at width s at → Inside width (length s) at m
+pub read-inside : (width at : ℕ) (s : List ℕ) (m : Number) → Some m ≡ vlq_at width s at → Inside width (length s) at m
 unfolding vlq_at vlq_of placed
 read-inside width at s m e = go (vlq_of width (drop at s)) (sized-vlq width (drop at s)) (under-limit (2 ^ width) (low64 (number_of 10 (drop at s)))) e
   where
-    go : (g : Found) → Sized (length (drop at s)) g → Under (2 ^ width) g → Value m ≡ placed at g → Inside width (length s) at m
+    go : (g : Found) → Sized (length (drop at s)) g → Under (2 ^ width) g → Some m ≡ placed at g → Inside width (length s) at m
     go (found v n) z u e =
         let ev : m.value ≡ v = cc in
         let en : m.next ≡ at + n = cc in

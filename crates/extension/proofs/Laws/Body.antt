@@ -11,9 +11,8 @@ use lib.ListN.{length, get_or, take}
 use lib.Seq.{length-take-le}
 use Rattle.codec.specs.Refusal.{body_short, count_unreadable, field_header_cut, value_long, value_cut, parameter_size, input_long}
 use Rattle.codec.specs.Vlq.{vlq_at}
-use Rattle.codec.specs.declared.vlq.Read.TheVariants.{Value, Unreadable}
+use Rattle.std.specs.Prelude.{Some, None, Option}
 use Rattle.codec.specs.declared.vlq.Number.{Number}
-use Rattle.codec.specs.declared.vlq.Read.{Read}
 use Rattle.extension.specs.declared.section.Parsed.{Parsed}
 use Rattle.extension.specs.declared.body.FieldPlace.{FieldPlace}
 use Rattle.extension.specs.declared.body.FieldAt.TheVariants.{HasField, NoField}
@@ -103,11 +102,11 @@ module _ (s : List ℕ) where
     body-short l = rw (le-ltb _ _ h, lt-ltb _ _ l)
 
     module _ (l : 32 ≤ length s) where
-      pub body-uncounted : Unreadable ≡ vlq_at 32 s 32 → refused_section count_unreadable ≡ extension_of s
+      pub body-uncounted : None ≡ vlq_at 32 s 32 → refused_section count_unreadable ≡ extension_of s
       unfolding extension_of fields_from
       body-uncounted e = rw (le-ltb _ _ h, le-ltb _ _ l, ← e)
 
-      pub body-counted : (m : Number) → Value m ≡ vlq_at 32 s 32
+      pub body-counted : (m : Number) → Some m ≡ vlq_at 32 s 32
           → closed m.value m.next (listing (read_field s) m.value m.next) ≡ extension_of s
       unfolding extension_of fields_from
       body-counted m e = rw (le-ltb _ _ h, le-ltb _ _ l, ← e)
@@ -117,19 +116,19 @@ pub record Opened (body : List ℕ) : Type 0 where
   pub not-long : length body ≤ 65536
   pub has-id : 32 ≤ length body
   pub number : Number
-  pub counted : Value number ≡ vlq_at 32 body 32
+  pub counted : Some number ≡ vlq_at 32 body 32
   pub is : extension_of body ≡ closed number.value number.next (listing (read_field body) number.value number.next)
 
 pub opened : (body : List ℕ) → (extension_of body).refusal ≡ 0 → Opened body
 unfolding extension_of fields_from
 opened body = go (ltb 65536 (length body)) (ltb (length body) 32) (vlq_at 32 body 32) refl refl refl
   where
-    go : (t u : Bool) (r : Read) → ltb 65536 (length body) ≡ t → ltb (length body) 32 ≡ u → vlq_at 32 body 32 ≡ r
+    go : (t u : Bool) (r : Option Number) → ltb 65536 (length body) ≡ t → ltb (length body) 32 ≡ u → vlq_at 32 body 32 ≡ r
         → (cond t (refused_section input_long) (cond u (refused_section body_short) (fields_from body r))).refusal ≡ 0 → Opened body
     go true u r p q e z = absurd (omega arith)
     go false true r p q e z = absurd (omega arith)
-    go false false Unreadable p q e z = absurd (omega arith)
-    go false false (Value m) p q e z =
+    go false false None p q e z = absurd (omega arith)
+    go false false (Some m) p q e z =
         record { not-long = ltb-false 65536 (length body) p; has-id = ltb-false (length body) 32 q; number = m; counted = sym e; is = rw (p, q, e) }
 
 -- the id, by what the body's reader answered
@@ -146,10 +145,10 @@ module _ (s : List ℕ) (x : Parsed) (is_x : x ≡ extension_of s) where
   id-size z = sym (length-take-le 32 s (opened s (ap (λ (y : Parsed). y.refusal) (sym is_x) ∙ z)).has-id)
 
 -- a body that is refused is refused as a whole, and has no fields
-fields-refused : (body : List ℕ) (r : Read) (k : ℕ) → (fields_from body r).refusal ≡ suc k → fields_from body r ≡ refused_section (suc k)
+fields-refused : (body : List ℕ) (r : Option Number) (k : ℕ) → (fields_from body r).refusal ≡ suc k → fields_from body r ≡ refused_section (suc k)
 unfolding fields_from
-fields-refused body Unreadable k e = ap refused_section e
-fields-refused body (Value m) k e = closed-refused m.value m.next _ k e
+fields-refused body None k e = ap refused_section e
+fields-refused body (Some m) k e = closed-refused m.value m.next _ k e
 
 pub body_refused : (s : List ℕ) (k : ℕ) → (extension_of s).refusal ≡ suc k → extension_of s ≡ refused_section (suc k)
 unfolding extension_of

@@ -14,8 +14,7 @@ use Rattle.codec.specs.Vlq.{vlq_at, vlq_bytes}
 use Rattle.codec.specs.Rule.{rule_of, offset_of}
 use Rattle.codec.specs.Refusal.{update_unreadable, mandatory_disabled, input_long}
 use Rattle.codec.specs.declared.vlq.Number.{Number}
-use Rattle.codec.specs.declared.vlq.Read.{Read}
-use Rattle.codec.specs.declared.vlq.Read.TheVariants.{Value, Unreadable}
+use Rattle.std.specs.Prelude.{Option, Some, None}
 use Rattle.codec.proofs.Laws.Rule.{offset-back}
 use Rattle.codec.proofs.Laws.VlqTrip.{read-inside, Inside}
 use Rattle.voting.specs.Common.{Each}
@@ -102,27 +101,27 @@ module _ {A : Type 0} (read : ℕ → Reading A) (stops : (at : ℕ) → Stops (
       go (got a next) t e more = more next e
       go (bad m) t e more = absurd (t e)
 
-  record ItemsRead (x : Read) : Type 0 where
+  record ItemsRead (x : Option Number) : Type 0 where
     number : Number
-    value-is : x ≡ Value number
+    value-is : x ≡ Some number
     closed_is : closed (count_in number.value) number.next (listing read (count_in number.value) number.next)
         ≡ record { refusal = 0; section = section (count_in number.value) number.next (items_from read x).section.end }
     section-is : (items_from read x).section ≡ section (count_in number.value) number.next (items_from read x).section.end
 
-  items-read : (x : Read) → (items_from read x).refusal ≡ 0 → ItemsRead x
+  items-read : (x : Option Number) → (items_from read x).refusal ≡ 0 → ItemsRead x
   unfolding items_from
-  items-read (Value m) e =
+  items-read (Some m) e =
       let c = ends (count_in m.value) m.next (count_in m.value) m.next e in
       record { number = m; value-is = refl; closed_is = c; section-is = ap (λ (p : Parsed). p.section) c }
-  items-read Unreadable e = absurd (omega arith)
+  items-read None e = absurd (omega arith)
 
 rule-stops : (s : List ℕ) (at : ℕ) → Stops (read_rule s at)
 unfolding read_rule rule_at placed_rule rule_reading
 rule-stops s at = go (vlq_at 16 s at)
   where
-    go : (x : Read) → Stops (rule_reading (placed_rule x))
-    go (Value m) = tt
-    go Unreadable = λ e. omega arith
+    go : (x : Option Number) → Stops (rule_reading (placed_rule x))
+    go (Some m) = tt
+    go None = λ e. omega arith
 
 status-stops : (s : List ℕ) (at : ℕ) → Stops (read_status s at)
 unfolding read_status status_at offset_then placed_status status_reading
@@ -133,13 +132,13 @@ status-stops s at = go (vlq_at 16 s at)
     cut rule k true = λ e. omega arith
     cut rule k false = tt
 
-    size : (rule : ℤ) (y : Read) → Stops (status_reading s (placed_status s rule y))
-    size rule (Value k) = cut rule k (ltb (length s) (k.next + 1 + k.value))
-    size rule Unreadable = λ e. omega arith
+    size : (rule : ℤ) (y : Option Number) → Stops (status_reading s (placed_status s rule y))
+    size rule (Some k) = cut rule k (ltb (length s) (k.next + 1 + k.value))
+    size rule None = λ e. omega arith
 
-    go : (x : Read) → Stops (status_reading s (offset_then s x))
-    go (Value m) = size (rule_of m.value) (vlq_at 16 s m.next)
-    go Unreadable = λ e. omega arith
+    go : (x : Option Number) → Stops (status_reading s (offset_then s x))
+    go (Some m) = size (rule_of m.value) (vlq_at 16 s m.next)
+    go None = λ e. omega arith
 
 -- the parts of an update that was read without a refusal
 module _ (s : List ℕ) where
@@ -169,10 +168,10 @@ unfolding read_rule rule_at placed_rule rule_reading
 rules-chain s zero at h = tt
 rules-chain s (suc n) at h = go (vlq_at 16 s at) refl h (λ k g. rules-chain s n k g)
   where
-    go : (x : Read) → x ≡ vlq_at 16 s at → Short s at x × ShortRules n s (next_of x) → ((k : ℕ) → ShortRules n s k → Chain s (read_rule s) vlq_bytes Any n k)
+    go : (x : Option Number) → x ≡ vlq_at 16 s at → Short s at x × ShortRules n s (next_of x) → ((k : ℕ) → ShortRules n s k → Chain s (read_rule s) vlq_bytes Any n k)
         → Stands s (read_rule s) vlq_bytes Any at (rule_reading (placed_rule x)) × Chain s (read_rule s) vlq_bytes Any n (next-of (rule_reading (placed_rule x)))
-    go (Value m) q h more = let i = read-inside 16 at s m q in ((h.0, i.after, i.inside, tt), more m.next h.1)
-    go Unreadable q h more = ((λ e. omega arith), more 0 h.1)
+    go (Some m) q h more = let i = read-inside 16 at s m q in ((h.0, i.after, i.inside, tt), more m.next h.1)
+    go None q h more = ((λ e. omega arith), more 0 h.1)
 
 rules-joined : (rules : List ℕ) → joined vlq_bytes rules ≡ rules_bytes rules
 unfolding rules_bytes
@@ -221,16 +220,16 @@ statuses-chain s (suc n) at h = go (vlq_at 16 s at) refl h.0 h.1 h.2 (λ k g. st
           more (k.next + 1 + k.value) h,
         )
 
-    size : (m : Number) (y : Read) → y ≡ vlq_at 16 s m.next → Inside 16 (length s) at m → part s at m.next ≡ vlq_bytes m.value → Short s m.next y
+    size : (m : Number) (y : Option Number) → y ≡ vlq_at 16 s m.next → Inside 16 (length s) at m → part s at m.next ≡ vlq_bytes m.value → Short s m.next y
         → ShortStatuses n s (end_of (placed_status s (rule_of m.value) y)) → ((a : ℕ) → ShortStatuses n s a → Chain s (read_status s) status_bytes Fine n a)
         → Next (placed_status s (rule_of m.value) y)
-    size m (Value k) e i p q h more = cut m k (ltb (length s) (k.next + 1 + k.value)) refl i (read-inside 16 m.next s k e) p q h more
-    size m Unreadable e i p q h more = ((λ e. omega arith), more 0 h)
+    size m (Some k) e i p q h more = cut m k (ltb (length s) (k.next + 1 + k.value)) refl i (read-inside 16 m.next s k e) p q h more
+    size m None e i p q h more = ((λ e. omega arith), more 0 h)
 
-    go : (x : Read) → x ≡ vlq_at 16 s at → Short s at x → Short s (next_of x) (vlq_at 16 s (next_of x)) → ShortStatuses n s (end_of (offset_then s x))
+    go : (x : Option Number) → x ≡ vlq_at 16 s at → Short s at x → Short s (next_of x) (vlq_at 16 s (next_of x)) → ShortStatuses n s (end_of (offset_then s x))
         → ((a : ℕ) → ShortStatuses n s a → Chain s (read_status s) status_bytes Fine n a) → Next (offset_then s x)
-    go (Value m) e p q h more = size m (vlq_at 16 s m.next) refl (read-inside 16 at s m e) p q h more
-    go Unreadable e p q h more = ((λ e. omega arith), more 0 h)
+    go (Some m) e p q h more = size m (vlq_at 16 s m.next) refl (read-inside 16 at s m e) p q h more
+    go None e p q h more = ((λ e. omega arith), more 0 h)
 
 statuses-joined : (xs : List Status) → joined status_bytes xs ≡ statuses_bytes xs
 unfolding statuses_bytes
@@ -266,7 +265,7 @@ module _ (s : List ℕ) (m₁ m₂ : Number) (end₁ end₂ : ℕ) where
   abbrev apart : Update
   apart = record { rules = section n₁ m₁.next end₁; statuses = section n₂ m₂.next end₂ }
 
-  module _ (few : length s ≤ 65536) (q₁ : vlq_at 32 s 0 ≡ Value m₁) (q₂ : vlq_at 32 s end₁ ≡ Value m₂)
+  module _ (few : length s ≤ 65536) (q₁ : vlq_at 32 s 0 ≡ Some m₁) (q₂ : vlq_at 32 s end₁ ≡ Some m₂)
       (c₁ : closed n₁ m₁.next (listing (read_rule s) n₁ m₁.next) ≡ record { refusal = 0; section = section n₁ m₁.next end₁ })
       (c₂ : closed n₂ m₂.next (listing (read_status s) n₂ m₂.next) ≡ record { refusal = 0; section = section n₂ m₂.next end₂ })
       (h : ShortUpdate s apart) where

@@ -10,8 +10,8 @@ use borrow.Author.Tests.{ltb-true, ltb-false, eqb-true, eqb-false}
 use lib.Dec.{ltb, eqb}
 use lib.IntN.{ℤ}
 use Rattle.voting.specs.Table.{lookup}
-use Rattle.voting.specs.declared.table.Value.{Value}
-use Rattle.voting.specs.declared.table.Value.TheVariants.{Absent, Number}
+use Rattle.voting.specs.Value.{Value}
+use Rattle.std.specs.Prelude.{None, Some}
 use Rattle.voting.specs.declared.table.Table.{Table}
 use Rattle.voting.proofs.Laws.Tests.{by-test}
 use Rattle.voting.proofs.Laws.Table.{absent-number, lookup-none}
@@ -21,34 +21,34 @@ use Rattle.extension.specs.declared.parameters.Matched.{Matched}
 use Rattle.extension.specs.Parameters.{entry_of, agrees, table_ids, first_differing, matched, check_parameters, Stands, LeastCarried}
 
 -- two entries that agree, and two that do not
-agreeing : (a b : Value) → agrees a b ≡ true → (x : ℤ) → a ≡ Number x → b ≡ Number x
+agreeing : (a b : Value) → agrees a b ≡ true → (x : ℤ) → a ≡ Some x → b ≡ Some x
 unfolding agrees
-agreeing Absent b e x q = absurd (absent-number x q)
-agreeing (Number y) Absent e x q = absurd (true≢false (sym e))
-agreeing (Number y) (Number z) e x q = ap Number (sym (eq_z-true y z e)) ∙ q
+agreeing None b e x q = absurd (absent-number x q)
+agreeing (Some y) None e x q = absurd (true≢false (sym e))
+agreeing (Some y) (Some z) e x q = ap Some (sym (eq_z-true y z e)) ∙ q
 
-differing : (a b : Value) → agrees a b ≡ false → ((x : ℤ) → a ≡ Number x → b ≡ Number x) → ⊥
+differing : (a b : Value) → agrees a b ≡ false → ((x : ℤ) → a ≡ Some x → b ≡ Some x) → ⊥
 unfolding agrees
-differing Absent b e f = true≢false e
-differing (Number x) b e f = true≢false (sym (ap (agrees (Number x)) (f x refl) ∙ eq_z-same x) ∙ e)
+differing None b e f = true≢false e
+differing (Some x) b e f = true≢false (sym (ap (agrees (Some x)) (f x refl) ∙ eq_z-same x) ∙ e)
 
 module _ (t : Table) where
   -- the ids of a list in rising order, from a number on: whatever lies between them has no entry
   abbrev Rising : ℕ → List ℕ → Type 0
-  Rising from [] = (id : ℕ) → from ≤ id → lookup t id ≡ Absent
-  Rising from (next ∷ ids) = ((id : ℕ) → from ≤ id → id < next → lookup t id ≡ Absent) × Rising (suc next) ids
+  Rising from [] = (id : ℕ) → from ≤ id → lookup t id ≡ None
+  Rising from (next ∷ ids) = ((id : ℕ) → from ≤ id → id < next → lookup t id ≡ None) × Rising (suc next) ids
 
-  none : {n : ℕ} (id : ℕ) → n ≤ id → id < n → lookup t id ≡ Absent
+  none : {n : ℕ} (id : ℕ) → n ≤ id → id < n → lookup t id ≡ None
   none id a b = absurd (omega arith)
 
-  before : (id : ℕ) → 0 ≤ id → id < 1 → lookup t id ≡ Absent
+  before : (id : ℕ) → 0 ≤ id → id < 1 → lookup t id ≡ None
   before id a b = lookup-none t id (λ c. omega arith) (λ e. omega arith) (λ e. omega arith) (λ e. omega arith)
 
   table-ids : Rising 0 table_ids
   unfolding table_ids
   table-ids =
-      let between : (id : ℕ) → 10 ≤ id → id < 121 → lookup t id ≡ Absent = λ id a b. lookup-none t id (λ c. a) (λ e. omega arith) (λ e. omega arith) (λ e. omega arith) in
-      let after : (id : ℕ) → 124 ≤ id → lookup t id ≡ Absent = λ id a. lookup-none t id (λ c. omega arith) (λ e. omega arith) (λ e. omega arith) (λ e. omega arith) in
+      let between : (id : ℕ) → 10 ≤ id → id < 121 → lookup t id ≡ None = λ id a b. lookup-none t id (λ c. a) (λ e. omega arith) (λ e. omega arith) (λ e. omega arith) in
+      let after : (id : ℕ) → 124 ≤ id → lookup t id ≡ None = λ id a. lookup-none t id (λ c. omega arith) (λ e. omega arith) (λ e. omega arith) (λ e. omega arith) in
       (before, (none, (none, (none, (none, (none, (none, (none, (none, (between, (none, (none, after))))))))))))
 
   module _ (m : ParameterMap) where
@@ -57,7 +57,7 @@ module _ (t : Table) where
     Below n = (id : ℕ) → id < n → Stands t m id
 
     -- entries that are absent from a number on stand as well
-    past : (from id : ℕ) → Below from → (from ≤ id → lookup t id ≡ Absent) → Stands t m id
+    past : (from id : ℕ) → Below from → (from ≤ id → lookup t id ≡ None) → Stands t m id
     past from id h r = by-test (ltb id from) (λ e. h id (ltb-true id from e)) (λ e x q. absurd (absent-number x (sym (r (ltb-false id from e)) ∙ q)))
 
     next-below : (n : ℕ) → Below n → Stands t m n → Below (suc n)

@@ -10,8 +10,8 @@ use native.Mathlib.Omega.{arith}
 use lib.Dec.{eqb}
 use lib.IntN.{pos, nat_abs}
 use Rattle.voting.specs.declared.settings.VotingConfig.{VotingConfig}
-use Rattle.voting.specs.declared.table.Value.{Value}
-use Rattle.voting.specs.declared.table.Value.TheVariants.{Absent, Number}
+use Rattle.voting.specs.Value.{Value}
+use Rattle.std.specs.Prelude.{None, Some}
 use Rattle.voting.specs.declared.table.Table.{Table}
 use Rattle.voting.specs.declared.tally.Entry.{Entry}
 use Rattle.voting.specs.declared.fork.Round.{Round}
@@ -60,8 +60,8 @@ in-any-order g height t tally vote s r e = (e, subst (InAnyOrder g height t tall
 -- ---- the examples, computed
 
 abbrev number_in : Value → ℕ
-number_in Absent = 0
-number_in (Number z) = nat_abs z
+number_in None = 0
+number_in (Some z) = nat_abs z
 
 unfoldable first : Table → ℕ
 first t = number_in (lookup t 1)

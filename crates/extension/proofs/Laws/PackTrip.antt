@@ -10,6 +10,7 @@ use native.Mathlib.Omega.{arith}
 use mir.Syntax.{w32}
 use mir.Val.{Val, SFits}
 use denote.Array.{each}
+use denote.Builtin.{i32}
 use denote.Shadow.{shadow}
 use borrow.Author.Rules.{rules}
 use borrow.Author.Tests.{le-ltb, ltb-false}
@@ -19,11 +20,9 @@ use lib.Seq.{take_all, take-add, get_or-drop, drop-drop}
 use Rattle.codec.specs.Refusal.{field_header_cut, value_long, value_cut}
 use Rattle.codec.specs.Vlq.{vlq_bytes}
 use Rattle.codec.proofs.Laws.VlqTrip.{Inside, read-inside}
-use Rattle.voting.specs.Table.{slot}
-use Rattle.voting.specs.declared.table.Slot.{Slot}
-use Rattle.voting.specs.declared.table.Value.{Value}
-use Rattle.voting.specs.declared.table.Value.TheVariants.{Absent, Number}
-use Rattle.voting.specs.contracts.table.Slot as slots
+use Rattle.voting.specs.Value.{Value}
+use Rattle.std.specs.Prelude.{None, Some}
+use Rattle.std.specs.contracts.option.Option as option
 use Rattle.voting.proofs.Laws.Tests.{by-test}
 use Rattle.extension.specs.declared.section.Parsed.{Parsed}
 use Rattle.extension.specs.declared.parameters.ParameterMap.{ParameterMap}
@@ -190,8 +189,8 @@ parsed-again body x e = (e, subst⁻¹ (λ (y : Parsed). BodyAgain body y.sectio
 
 -- a number that a signed 32-bit cell can hold
 abbrev pub Held : Value → Type 0
-Held Absent = Unit {0}
-Held (Number z) = SFits w32 z
+Held None = Unit {0}
+Held (Some z) = SFits w32 z
 
 -- every entry's number fits a signed 32-bit cell
 abbrev pub Sound : ParameterMap → Type 0
@@ -199,14 +198,14 @@ Sound m = (id : ℕ) → Held (entry_of m id)
 
 -- what owning an array of entries tells of their numbers
 abbrev Cell : Type 0
-Cell = (slots.the_row).Denot
+Cell = (option.the_row i32).Denot
 
-one-held : (v : Value) (u : Val) → shadow ((slots.the_row).own_val (slot v) (u ∷ [])) → Held v
-one-held Absent u p = tt
-one-held (Number z) u p = search rules
+one-held : (v : Value) (u : Val) → shadow ((option.the_row i32).own_val v (u ∷ [])) → Held v
+one-held None u p = tt
+one-held (Some z) u p = search rules
 
-pub all_held : (xs : List Slot) (us : List Val) → shadow (each Cell (slots.the_row).own_val xs us) → (i : ℕ) → Held (get_or xs i (slot Absent)).value
+pub all_held : (xs : List Value) (us : List Val) → shadow (each Cell (option.the_row i32).own_val xs us) → (i : ℕ) → Held (get_or xs i None)
 all_held [] us p i = tt
 all_held (x ∷ xs) [] p i = absurd p
-all_held (x ∷ xs) (u ∷ us) p zero = one-held x.value u p.0
+all_held (x ∷ xs) (u ∷ us) p zero = one-held x u p.0
 all_held (x ∷ xs) (u ∷ us) p (suc i) = all_held xs us p.1 i

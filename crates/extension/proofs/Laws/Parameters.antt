@@ -11,7 +11,7 @@ use lib.Seq.{drop-cons}
 use Rattle.codec.specs.Refusal.{entry_differs}
 use Rattle.codec.proofs.Laws.Lists.{all-elements}
 use Rattle.voting.specs.Table.{lookup}
-use Rattle.voting.specs.declared.table.Value.{Value}
+use Rattle.voting.specs.Value.{Value}
 use Rattle.voting.specs.declared.table.Table.{Table}
 use Rattle.extension.specs.declared.section.Parsed.{Parsed}
 use Rattle.extension.specs.declared.parameters.ParameterMap.{ParameterMap}

@@ -10,8 +10,8 @@ use lib.ListN.{length, get_or}
 use Rattle.codec.specs.Refusal.{body_short, field_header_cut, value_long, value_cut, parameter_size, update_unreadable, mandatory_disabled, input_long}
 use Rattle.codec.specs.Rule.{rule_of}
 use Rattle.codec.specs.Vlq.{vlq_at}
-use Rattle.codec.specs.declared.vlq.Read.{Read}
-use Rattle.codec.specs.declared.vlq.Read.TheVariants.{Value, Unreadable}
+use Rattle.std.specs.Prelude.{Option, Some, None}
+use Rattle.codec.specs.declared.vlq.Number.{Number}
 use Rattle.extension.proofs.Laws.Body.{check-body-by}
 use Rattle.voting.specs.ForkPart.{no_round}
 use Rattle.voting.specs.Boundary.{boundary_of}
@@ -56,10 +56,10 @@ field-other s at = go (ltb (length s) (at + 3)) (ltb 64 (get_or s (at + 2) 0)) (
     go false false true f = refl
     go false false false f = tt
 
-fields-other : (body : List ℕ) (r : Read) → Other (fields_from body r).refusal
+fields-other : (body : List ℕ) (r : Option Number) → Other (fields_from body r).refusal
 unfolding fields_from
-fields-other body Unreadable = refl
-fields-other body (Value m) = listing-other (read_field body) (field-other body) m.value m.value m.next m.next
+fields-other body None = refl
+fields-other body (Some m) = listing-other (read_field body) (field-other body) m.value m.value m.next m.next
 
 pub body-other : (body : List ℕ) → Other (check_body body).refusal
 unfolding extension_of
@@ -77,9 +77,9 @@ rule-other : (s : List ℕ) (at : ℕ) → Unlike (read_rule s at)
 unfolding read_rule rule_reading rule_at placed_rule
 rule-other s at = go (vlq_at 16 s at)
   where
-    go : (r : Read) → Unlike (rule_reading (placed_rule r))
-    go Unreadable = refl
-    go (Value m) = tt
+    go : (r : Option Number) → Unlike (rule_reading (placed_rule r))
+    go None = refl
+    go (Some m) = tt
 
 status-other : (s : List ℕ) (at : ℕ) → Unlike (read_status s at)
 unfolding read_status status_reading status_at offset_then placed_status
@@ -89,18 +89,18 @@ status-other s at = go (vlq_at 16 s at)
     whole true p = refl
     whole false p = tt
 
-    placed : (rule : ℤ) (r : Read) → Unlike (status_reading s (placed_status s rule r))
-    placed rule Unreadable = refl
-    placed rule (Value m) = whole (ltb (length s) (m.next + 1 + m.value)) _
+    placed : (rule : ℤ) (r : Option Number) → Unlike (status_reading s (placed_status s rule r))
+    placed rule None = refl
+    placed rule (Some m) = whole (ltb (length s) (m.next + 1 + m.value)) _
 
-    go : (r : Read) → Unlike (status_reading s (offset_then s r))
-    go Unreadable = refl
-    go (Value m) = placed (rule_of m.value) (vlq_at 16 s m.next)
+    go : (r : Option Number) → Unlike (status_reading s (offset_then s r))
+    go None = refl
+    go (Some m) = placed (rule_of m.value) (vlq_at 16 s m.next)
 
-items-other : {A : Type 0} (read : ℕ → Reading A) → ((at : ℕ) → Unlike (read at)) → (r : Read) → Other (items_from read r).refusal
+items-other : {A : Type 0} (read : ℕ → Reading A) → ((at : ℕ) → Unlike (read at)) → (r : Option Number) → Other (items_from read r).refusal
 unfolding items_from
-items-other read h Unreadable = refl
-items-other read h (Value m) = listing-other read h (count_in m.value) (count_in m.value) m.next m.next
+items-other read h None = refl
+items-other read h (Some m) = listing-other read h (count_in m.value) (count_in m.value) m.next m.next
 
 update_other : (s : List ℕ) → Other (update_of s).refusal
 unfolding update_of with_rules with_statuses

@@ -14,8 +14,7 @@ use Rattle.codec.specs.Vlq.{vlq_at}
 use Rattle.codec.specs.Rule.{rule_of}
 use Rattle.codec.specs.declared.rule.RuleId.{RuleId}
 use Rattle.codec.specs.declared.vlq.Number.{Number}
-use Rattle.codec.specs.declared.vlq.Read.{Read}
-use Rattle.codec.specs.declared.vlq.Read.TheVariants.{Value, Unreadable}
+use Rattle.std.specs.Prelude.{Option, Some, None}
 use Rattle.extension.specs.declared.section.Section.{Section}
 use Rattle.extension.specs.declared.section.Parsed.{Parsed}
 use Rattle.extension.specs.declared.update.RulePlace.{RulePlace}
@@ -35,11 +34,11 @@ use Rattle.extension.specs.Rules.{RulesAre}
 
 -- the rule at a position
 module _ (s : List ℕ) (at : ℕ) where
-  pub rule-unreadable : Unreadable ≡ vlq_at 16 s at → NoRule update_unreadable ≡ rule_at s at
+  pub rule-unreadable : None ≡ vlq_at 16 s at → NoRule update_unreadable ≡ rule_at s at
   unfolding rule_at placed_rule
   rule-unreadable e = rw (← e)
 
-  pub rule-here : (m : Number) → Value m ≡ vlq_at 16 s at → HasRule (record { id = m.value; next = m.next }) ≡ rule_at s at
+  pub rule-here : (m : Number) → Some m ≡ vlq_at 16 s at → HasRule (record { id = m.value; next = m.next }) ≡ rule_at s at
   unfolding rule_at placed_rule
   rule-here m e = rw (← e)
 
@@ -69,11 +68,11 @@ module _ (s : List ℕ) (at : ℕ) where
 
 -- the status at a position, after its offset
 module _ (s : List ℕ) (rule : RuleId) (at : ℕ) where
-  pub size-unreadable : Unreadable ≡ vlq_at 16 s at → NoStatus update_unreadable ≡ placed_status s rule.0 (vlq_at 16 s at)
+  pub size-unreadable : None ≡ vlq_at 16 s at → NoStatus update_unreadable ≡ placed_status s rule.0 (vlq_at 16 s at)
   unfolding placed_status
   size-unreadable e = rw (← e)
 
-  module _ (m : Number) (e : Value m ≡ vlq_at 16 s at) where
+  module _ (m : Number) (e : Some m ≡ vlq_at 16 s at) where
     pub raw-cut : length s < m.next + 1 + m.value → NoStatus update_unreadable ≡ placed_status s rule.0 (vlq_at 16 s at)
     unfolding placed_status
     raw-cut h = rw (← e, lt-ltb _ _ h)
@@ -87,11 +86,11 @@ abbrev pub status_in : List ℕ → StatusPlace → Status
 status_in s x = record { rule = x.rule.0; code = x.code; raw = part s x.start x.end }
 
 module _ (s : List ℕ) (at : ℕ) where
-  pub offset-unreadable : Unreadable ≡ vlq_at 16 s at → NoStatus update_unreadable ≡ status_at s at
+  pub offset-unreadable : None ≡ vlq_at 16 s at → NoStatus update_unreadable ≡ status_at s at
   unfolding status_at offset_then
   offset-unreadable e = rw (← e)
 
-  pub offset-here : (m : Number) → Value m ≡ vlq_at 16 s at → (rule : ℤ) → rule ≡ rule_of m.value → placed_status s rule (vlq_at 16 s m.next) ≡ status_at s at
+  pub offset-here : (m : Number) → Some m ≡ vlq_at 16 s at → (rule : ℤ) → rule ≡ rule_of m.value → placed_status s rule (vlq_at 16 s m.next) ≡ status_at s at
   unfolding status_at offset_then
   offset-here m e rule q = rw (← e, q)
 
@@ -120,10 +119,10 @@ module _ (s : List ℕ) (at : ℕ) where
   raw-none e q = rw (← q)
 
 -- the raw bytes of a status lie inside
-sized_inside : (s : List ℕ) (rule : ℤ) (r : Read) (x : StatusPlace) → HasStatus x ≡ placed_status s rule r → (x.start ≤ x.end) × (x.end ≤ length s)
+sized_inside : (s : List ℕ) (rule : ℤ) (r : Option Number) (x : StatusPlace) → HasStatus x ≡ placed_status s rule r → (x.start ≤ x.end) × (x.end ≤ length s)
 unfolding placed_status
-sized_inside s rule Unreadable x e = absurd (let z : ◌≡◌ {A = ℕ} 0 1 = cc in omega arith)
-sized_inside s rule (Value m) x e = go (ltb (length s) (m.next + 1 + m.value)) refl e
+sized_inside s rule None x e = absurd (let z : ◌≡◌ {A = ℕ} 0 1 = cc in omega arith)
+sized_inside s rule (Some m) x e = go (ltb (length s) (m.next + 1 + m.value)) refl e
   where
     go : (p : Bool) → ltb (length s) (m.next + 1 + m.value) ≡ p
         → HasStatus x ≡ cond p (NoStatus update_unreadable) (HasStatus (record { rule = record { 0 = rule }; code = get_or s m.next 0; start = m.next + 1; end = m.next + 1 + m.value }))
@@ -138,9 +137,9 @@ pub status-inside : (s : List ℕ) (at : ℕ) (x : StatusPlace) → HasStatus x 
 unfolding status_at offset_then
 status-inside s at x e = go (vlq_at 16 s at) e
   where
-    go : (r : Read) → HasStatus x ≡ offset_then s r → (x.start ≤ x.end) × (x.end ≤ length s)
-    go Unreadable q = absurd (let z : ◌≡◌ {A = ℕ} 0 1 = cc in omega arith)
-    go (Value m) q = sized_inside s (rule_of m.value) (vlq_at 16 s m.next) x q
+    go : (r : Option Number) → HasStatus x ≡ offset_then s r → (x.start ≤ x.end) × (x.end ≤ length s)
+    go None q = absurd (let z : ◌≡◌ {A = ℕ} 0 1 = cc in omega arith)
+    go (Some m) q = sized_inside s (rule_of m.value) (vlq_at 16 s m.next) x q
 
 pub raw-inside : (s : List ℕ) (at : ℕ) (x : StatusPlace) → HasStatus x ≡ update_status s at → (x.start ≤ x.end) × (x.end ≤ length s)
 unfolding update_status
@@ -160,12 +159,12 @@ unfolding count_in
 count-large n h = rw (le-ltb _ _ h)
 
 -- a section, by what its count reads
-module _ {A : Type 0} (read : ℕ → Reading A) (r : Read) where
-  pub from-unreadable : Unreadable ≡ r → refused_section update_unreadable ≡ items_from read r
+module _ {A : Type 0} (read : ℕ → Reading A) (r : Option Number) where
+  pub from-unreadable : None ≡ r → refused_section update_unreadable ≡ items_from read r
   unfolding items_from
   from-unreadable e = rw (← e)
 
-  pub from-count : (m : Number) → Value m ≡ r → (n : ℕ) → n ≡ count_in m.value → closed n m.next (listing read n m.next) ≡ items_from read r
+  pub from-count : (m : Number) → Some m ≡ r → (n : ℕ) → n ≡ count_in m.value → closed n m.next (listing read n m.next) ≡ items_from read r
   unfolding items_from
   from-count m e n q = rw (← e, q)
 

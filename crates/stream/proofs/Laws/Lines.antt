@@ -11,8 +11,8 @@ use Rattle.codec.specs.Refusal.{output_short}
 use Rattle.codec.proofs.Laws.Decimal.{digits-length}
 use Rattle.codec.proofs.Laws.Output.{short, done}
 use Rattle.codec.proofs.Laws.Signed.{is-neg, not_neg, flip}
-use Rattle.voting.specs.declared.table.Value.{Value}
-use Rattle.voting.specs.declared.table.Value.TheVariants.{Absent, Number}
+use Rattle.voting.specs.Value.{Value}
+use Rattle.std.specs.Prelude.{None, Some}
 use Rattle.voting.specs.declared.table.Fork.{Fork}
 use Rattle.stream.specs.Lines.{decimal, column, epoch_line, end_line, line_most}
 
@@ -40,11 +40,11 @@ module _ (x : ℤ) (f : SFits w32 x) where
       record { fits = omega arith }
 
 -- an entry of the table, by its variant; a number comes back from its bits
-pub column-absent : (v : Value) → v ≡ Absent → 45 ∷ [] ≡ column v
+pub column-absent : (v : Value) → v ≡ None → 45 ∷ [] ≡ column v
 unfolding column
 column-absent v q = rw q
 
-pub column-number : (v : Value) (x : ℤ) → SFits w32 x → v ≡ Number x → decimal (to_z w32 (of_z w32 x)) ≡ column v
+pub column-number : (v : Value) (x : ℤ) → SFits w32 x → v ≡ Some x → decimal (to_z w32 (of_z w32 x)) ≡ column v
 unfolding column
 column-number v x f q = rw q (ap decimal (to_z-of_z w32 x f))
 
@@ -74,9 +74,9 @@ one-most x = record { is = omega arith }
 
 column-most : (v : Value) → Most (column v) 11
 unfolding column decimal
-column-most Absent = record { is = omega arith }
-column-most (Number (pos n)) = record { is = omega (arith, digits-length 10 n) }
-column-most (Number (negsuc n)) = record { is = omega (arith, digits-length 10 (n + 1)) }
+column-most None = record { is = omega arith }
+column-most (Some (pos n)) = record { is = omega (arith, digits-length 10 n) }
+column-most (Some (negsuc n)) = record { is = omega (arith, digits-length 10 (n + 1)) }
 
 pub epoch-most : (height : ℕ) (f : Fork) → length (epoch_line height f) ≤ line_most
 unfolding epoch_line

@@ -2,7 +2,7 @@
 -- Assumes nothing.
 use Rattle.std.proofs.Common.{◌≡◌, ℕ, ◌<◌, Bool, true, false, not, ◌&&◌, List, ℤ, pos, sym, refl, ap, ◌∙◌, arith, w32, SFits, of_z, eq-eqb, ne_eqb}
 use Rattle.voting.specs.declared.settings.VotingConfig.{VotingConfig}
-use Rattle.voting.specs.declared.table.Value.TheVariants.{Absent, Number}
+use Rattle.std.specs.Prelude.{None, Some}
 use Rattle.voting.specs.declared.table.Table.{Table}
 use Rattle.voting.specs.declared.tally.Entry.{Entry}
 use Rattle.voting.specs.declared.boundary.Boundary.{Boundary}
@@ -21,22 +21,22 @@ use Rattle.voting.proofs.Laws.Ordinary.{ordinary-keeps}
 -- ---- the version of a block
 
 module _ (t : Table) (v : ℕ) where
-  pub version-none : t.fork.version ≡ Absent → 20 ≡ check_block_version t v
+  pub version-none : t.fork.version ≡ None → 20 ≡ check_block_version t v
   unfolding check_block_version version_refusal lookup
   version-none e = rw e
 
-  pub version-same : (z : ℤ) → t.fork.version ≡ Number z → SFits w32 z → v < 256 → of_z w32 z ≡ v → 0 ≡ check_block_version t v
+  pub version-same : (z : ℤ) → t.fork.version ≡ Some z → SFits w32 z → v < 256 → of_z w32 z ≡ v → 0 ≡ check_block_version t v
   unfolding check_block_version version_refusal lookup
   version-same z e f l q = rw (e, is-number w32 z v f (omega arith), eq-eqb (of_z w32 z) v q)
 
-  pub version-other : (z : ℤ) → t.fork.version ≡ Number z → SFits w32 z → v < 256 → (of_z w32 z ≡ v → ⊥) → 16 ≡ check_block_version t v
+  pub version-other : (z : ℤ) → t.fork.version ≡ Some z → SFits w32 z → v < 256 → (of_z w32 z ≡ v → ⊥) → 16 ≡ check_block_version t v
   unfolding check_block_version version_refusal lookup
   version-other z e f l q = rw (e, is-number w32 z v f (omega arith), ne_eqb (of_z w32 z) v q)
 
 -- ---- entry 9
 
 module _ (disabled : Bool) (t : Table) (four none : Bool) (is-four : four ≡ is_number (lookup t 123) (pos 4)) (is_none : none ≡ is_absent (lookup t 9)) where
-  pub subblocks-new : (four && none && not disabled) ≡ true → update t 9 (Number (pos 30)) ≡ with_subblocks disabled t
+  pub subblocks-new : (four && none && not disabled) ≡ true → update t 9 (Some (pos 30)) ≡ with_subblocks disabled t
   unfolding with_subblocks
   subblocks-new e = rw (← is-four, ← is_none, e)
 
@@ -53,7 +53,7 @@ nine-known = refl
 pub subblocks-keeps : (disabled : Bool) (t : Table) → (with_subblocks disabled t).fork ≡ t.fork
 unfolding with_subblocks
 subblocks-keeps disabled t =
-    by-test (is_number (lookup t 123) (pos 4) && is_absent (lookup t 9) && not disabled) (λ e. rw e (update-keeps t 9 (Number (pos 30)) nine-known)) (λ e. rw e)
+    by-test (is_number (lookup t 123) (pos 4) && is_absent (lookup t 9) && not disabled) (λ e. rw e (update-keeps t 9 (Some (pos 30)) nine-known)) (λ e. rw e)
 
 -- ---- a boundary that is not refused, taken apart
 

@@ -6,8 +6,8 @@ use borrow.Author.Tests.{lt-leb}
 use lib.Signed.{le_z}
 use mir.ValLaws.{to_z-of_z}
 use Rattle.voting.specs.declared.settings.VotingConfig.{VotingConfig}
-use Rattle.voting.specs.declared.table.Value.{Value}
-use Rattle.voting.specs.declared.table.Value.TheVariants.{Absent, Number}
+use Rattle.voting.specs.Value.{Value}
+use Rattle.std.specs.Prelude.{None, Some}
 use Rattle.voting.specs.declared.table.Fork.{Fork}
 use Rattle.voting.specs.declared.table.Table.{Table}
 use Rattle.voting.specs.declared.fork.Phase.{Phase}
@@ -51,16 +51,16 @@ phase-is g h s late early voting rising a b c d =
 -- ---- the fork check
 
 module _ (g : VotingConfig) (h : ℕ) (start votes : Value) where
-  pub round-none : start ≡ Absent → Allowed ≡ check_round g h start votes
+  pub round-none : start ≡ None → Allowed ≡ check_round g h start votes
   unfolding check_round
   round-none e = rw e
 
-  module _ (s : ℤ) (is-s : start ≡ Number s) where
-    pub round-orphan : votes ≡ Absent → Refused 19 ≡ check_round g h start votes
+  module _ (s : ℤ) (is-s : start ≡ Some s) where
+    pub round-orphan : votes ≡ None → Refused 19 ≡ check_round g h start votes
     unfolding check_round
     round-orphan e = rw (is-s, e)
 
-    module _ (n : ℤ) (is-n : votes ≡ Number n) (b : Bool) (is_b : b ≡ barred g h s n) where
+    module _ (n : ℤ) (is-n : votes ≡ Some n) (b : Bool) (is_b : b ≡ barred g h s n) where
       pub round-barred : b ≡ true → Barred ≡ check_round g h start votes
       unfolding check_round
       round-barred e = rw (is-s, is-n, ← is_b, e)
@@ -86,16 +86,16 @@ module _ (g : VotingConfig) (h : ℕ) (votes : List ℕ) (t : Table) (large : Bo
 -- ---- the heights below which each vote for the fork is allowed
 
 module _ (g : VotingConfig) (end : ℕ) (start votes : Value) where
-  pub open_none : start ≡ Absent → true ≡ round_open g end start votes
+  pub open_none : start ≡ None → true ≡ round_open g end start votes
   unfolding round_open
   open_none e = rw e
 
-  module _ (s : ℤ) (is-s : start ≡ Number s) where
-    pub open-orphan : votes ≡ Absent → false ≡ round_open g end start votes
+  module _ (s : ℤ) (is-s : start ≡ Some s) where
+    pub open-orphan : votes ≡ None → false ≡ round_open g end start votes
     unfolding round_open
     open-orphan e = rw (is-s, e)
 
-    pub open-below : (n : ℤ) → votes ≡ Number n → (from : ℕ) → Shifted g s (vote_epochs g) from → leb (end + 2147483648) from ≡ round_open g end start votes
+    pub open-below : (n : ℤ) → votes ≡ Some n → (from : ℕ) → Shifted g s (vote_epochs g) from → leb (end + 2147483648) from ≡ round_open g end start votes
     unfolding round_open
     open-below n is-n from e = rw (is-s, is-n) (at_most end from (epochs_after g s (vote_epochs g)) e)
 
@@ -113,9 +113,9 @@ unbarred g end h s n e b = rw (not_yet end h (epochs_after g s (vote_epochs g)) 
 
 round-allows : (g : VotingConfig) (end h : ℕ) (start votes : Value) → round_open g end start votes ≡ true → h < end → fork_refusal (check_round g h start votes) ≡ 0
 unfolding round_open check_round fork_refusal
-round-allows g end h Absent votes e b = refl
-round-allows g end h (Number s) Absent e b = absurd (true≢false (sym e))
-round-allows g end h (Number s) (Number n) e b = rw (unbarred g end h s n e b)
+round-allows g end h None votes e b = refl
+round-allows g end h (Some s) None e b = absurd (true≢false (sym e))
+round-allows g end h (Some s) (Some n) e b = rw (unbarred g end h s n e b)
 
 pub open-allows : (g : VotingConfig) (end : ℕ) (t : Table) → votes_open g end t ≡ true → (h : ℕ) (votes : List ℕ) → h < end → fork_refusal (check_fork_vote g h votes t) ≡ 0
 unfolding votes_open check_fork_vote fork_refusal
@@ -133,7 +133,7 @@ pub total-is : (votes : ℕ) (n : ℤ) → votes < 2 ^ 32 → SFits w32 n → (a
 unfolding fork_total
 total-is votes n h f a r is-a is-r = is-r ∙ ap (λ (z : ℤ). wrapped 32 (z +ℤ n)) is-a ∙ wrapped-natural w32 votes n h f
 
-pub begun-at : (opens : Bool) (h : ℕ) (f : Fork) (z : ℤ) → h < 2 ^ 32 → z ≡ signed_of 32 h → opens ≡ true → fork_entries (Number (pos 0)) (Number z) f.version ≡ begun opens h f
+pub begun-at : (opens : Bool) (h : ℕ) (f : Fork) (z : ℤ) → h < 2 ^ 32 → z ≡ signed_of 32 h → opens ≡ true → fork_entries (Some (pos 0)) (Some z) f.version ≡ begun opens h f
 unfolding begun
 begun-at opens h f z l is-z e = rw (e, is-z, wrapped-pos w32 h l)
 
@@ -145,18 +145,18 @@ module _ (next : ℤ → ℤ) (f : Fork) where
   version-stays false e = go f.version refl
     where
       go : (v : Value) → f.version ≡ v → record { refusal = 0; fork = f } ≡ version_by false next f v
-      go Absent q = refl
-      go (Number z) q = rw (← q)
+      go None q = refl
+      go (Some z) q = rw (← q)
 
-  pub version-absent : (changes : Bool) → not changes ≡ false → f.version ≡ Absent → record { refusal = 20; fork = f } ≡ version_by changes next f f.version
+  pub version-absent : (changes : Bool) → not changes ≡ false → f.version ≡ None → record { refusal = 20; fork = f } ≡ version_by changes next f f.version
   unfolding version_by
   version-absent true e q = sym (ap (version_by true next f) q)
   version-absent false e q = absurd (true≢false e)
 
-  pub version-next : (changes : Bool) → not changes ≡ false → (z n : ℤ) → f.version ≡ Number z → n ≡ next z
-      → record { refusal = 0; fork = fork_entries f.votes f.start (Number n) } ≡ version_by changes next f f.version
+  pub version-next : (changes : Bool) → not changes ≡ false → (z n : ℤ) → f.version ≡ Some z → n ≡ next z
+      → record { refusal = 0; fork = fork_entries f.votes f.start (Some n) } ≡ version_by changes next f f.version
   unfolding version_by
-  version-next true e z n q is-n = ap {B = Forked} (λ (y : ℤ). record { refusal = 0; fork = fork_entries f.votes f.start (Number y) }) is-n ∙ sym (ap (version_by true next f) q)
+  version-next true e z n q is-n = ap {B = Forked} (λ (y : ℤ). record { refusal = 0; fork = fork_entries f.votes f.start (Some y) }) is-n ∙ sym (ap (version_by true next f) q)
   version-next false e z n q is-n = absurd (true≢false e)
 
 -- the steps' entries and then the forced version
@@ -175,15 +175,15 @@ module _ (g : VotingConfig) (h : ℕ) (old : Fork) (round : Round) (f : Forked) 
     forced-pass e = rw (← is_last) (gate-pass (fork_refused old) last.refusal _ e ∙ gate-pass (fork_refused old) f.refusal _ z)
 
 module _ (g : VotingConfig) (h : ℕ) (vote : Bool) (votes : ℕ) (old : Fork) (p : Phase) (collected : Value) where
-  pub running-orphan : collected ≡ Absent → reads_total p ≡ true → fork_refused old 19 ≡ running g h vote votes old p collected
+  pub running-orphan : collected ≡ None → reads_total p ≡ true → fork_refused old 19 ≡ running g h vote votes old p collected
   unfolding running
   running-orphan q e = rw (q, e)
 
-  pub running-unread : collected ≡ Absent → reads_total p ≡ false → finished g h old no_round (record { refusal = 0; fork = old }) ≡ running g h vote votes old p collected
+  pub running-unread : collected ≡ None → reads_total p ≡ false → finished g h old no_round (record { refusal = 0; fork = old }) ≡ running g h vote votes old p collected
   unfolding running
   running-unread q e = rw (q, e)
 
-  pub running-on : (n total : ℤ) (approved : Bool) (round : Round) (f : Forked) → collected ≡ Number n → total ≡ fork_total votes n → approved ≡ soft_fork_approved g total
+  pub running-on : (n total : ℤ) (approved : Bool) (round : Round) (f : Forked) → collected ≡ Some n → total ≡ fork_total votes n → approved ≡ soft_fork_approved g total
       → round ≡ round_steps p vote approved total → f ≡ five_steps p vote approved total h old → finished g h old round f ≡ running g h vote votes old p collected
   unfolding running
   running-on n total approved round f q is-t is-a is-r is_f = rw (q, is-r, is_f, is-a, is-t)
@@ -204,41 +204,41 @@ module _ (g : VotingConfig) (h : ℕ) (vote : Bool) (votes : ℕ) (old : Fork) w
 
 -- ---- the entries after the five steps, entry by entry, where there is a version
 
-without_is : (closes : Bool) (votes start version : Value) → without closes (fork_entries votes start version) ≡ fork_entries (cond closes Absent votes) (cond closes Absent start) version
+without_is : (closes : Bool) (votes start version : Value) → without closes (fork_entries votes start version) ≡ fork_entries (cond closes None votes) (cond closes None start) version
 unfolding without
 without_is true votes start version = refl
 without_is false votes start version = refl
 
 pub begun-is : (opens : Bool) (h : ℕ) (votes start version : Value)
-    → begun opens h (fork_entries votes start version) ≡ fork_entries (cond opens (Number (pos 0)) votes) (cond opens (Number (wrapped 32 (pos h))) start) version
+    → begun opens h (fork_entries votes start version) ≡ fork_entries (cond opens (Some (pos 0)) votes) (cond opens (Some (wrapped 32 (pos h))) start) version
 unfolding begun
 begun-is true h votes start version = refl
 begun-is false h votes start version = refl
 
-collected-is : (voting : Bool) (total : ℤ) (votes start version : Value) → collected voting total (fork_entries votes start version) ≡ fork_entries (cond voting (Number total) votes) start version
+collected-is : (voting : Bool) (total : ℤ) (votes start version : Value) → collected voting total (fork_entries votes start version) ≡ fork_entries (cond voting (Some total) votes) start version
 unfolding collected
 collected-is true total votes start version = refl
 collected-is false total votes start version = refl
 
 pub steps-are : (p : Phase) (vote approved : Bool) (total : ℤ) (h : ℕ) (votes start : Value) (z : ℤ)
-    → five_steps p vote approved total h (fork_entries votes start (Number z))
+    → five_steps p vote approved total h (fork_entries votes start (Some z))
     ≡ record {
       refusal = 0;
       fork = fork_entries
-          (cond p.voting (Number total) (cond (restarts p vote approved) (Number (pos 0)) (cond (closes_early p approved) Absent (cond (closes_late p approved) Absent votes))))
-          (cond (restarts p vote approved) (Number (wrapped 32 (pos h))) (cond (closes_early p approved) Absent (cond (closes_late p approved) Absent start)))
-          (Number (cond (rises p approved) (one_more z) z));
+          (cond p.voting (Some total) (cond (restarts p vote approved) (Some (pos 0)) (cond (closes_early p approved) None (cond (closes_late p approved) None votes))))
+          (cond (restarts p vote approved) (Some (wrapped 32 (pos h))) (cond (closes_early p approved) None (cond (closes_late p approved) None start)))
+          (Some (cond (rises p approved) (one_more z) z));
     }
 unfolding five_steps risen version_by
 steps-are p vote approved total h votes start z =
-    rw (without_is (closes_late p approved) votes start (Number z), without_is (closes_early p approved), begun-is (restarts p vote approved) h, collected-is p.voting total)
+    rw (without_is (closes_late p approved) votes start (Some z), without_is (closes_early p approved), begun-is (restarts p vote approved) h, collected-is p.voting total)
 
 -- a fork check that turns nobody down allows
 pub allowed : (g : VotingConfig) (h : ℕ) (start votes : Value) → fork_refusal (check_round g h start votes) ≡ 0 → check_round g h start votes ≡ Allowed
 unfolding check_round fork_refusal
-allowed g h Absent votes e = refl
-allowed g h (Number s) Absent e = absurd (omega arith)
-allowed g h (Number s) (Number n) e = go (barred g h s n) e
+allowed g h None votes e = refl
+allowed g h (Some s) None e = absurd (omega arith)
+allowed g h (Some s) (Some n) e = go (barred g h s n) e
   where
     go : (b : Bool) → fork_refusal (cond b Barred Allowed) ≡ 0 → cond b Barred Allowed ≡ Allowed
     go true e = absurd (omega arith)

@@ -5,8 +5,8 @@ use mathlib.Core.List.{Permᴰ}
 use Rattle.codec.specs.Refusal.{unknown_parameter, absent_parameter}
 use Rattle.codec.proofs.Laws.Signed.{wraps-to}
 use Rattle.voting.specs.declared.settings.VotingConfig.{VotingConfig}
-use Rattle.voting.specs.declared.table.Value.{Value}
-use Rattle.voting.specs.declared.table.Value.TheVariants.{Number}
+use Rattle.voting.specs.Value.{Value}
+use Rattle.std.specs.Prelude.{Some}
 use Rattle.voting.specs.declared.table.Table.{Table}
 use Rattle.voting.specs.declared.tally.Entry.{Entry}
 use Rattle.voting.specs.declared.fork.Round.{Round}
@@ -94,7 +94,7 @@ data Act (id : ℤ) (f : Table → Voted) : Type 0 where
 act : (g : VotingConfig) (from : Table) (e : Entry) → Act e.id (voted g from e)
 act g from e =
     by-vote (Act e.id) g from e (λ c. goes nothing (λ t. refl)) (λ c k. halts unknown_parameter (inl refl) (λ t. refl))
-    (λ c k l. halts absent_parameter (inr refl) (λ t. refl)) (λ z c k l. goes (one (Number (moved e.id z)) k) (λ t. refl))
+    (λ c k l. halts absent_parameter (inr refl) (λ t. refl)) (λ z c k l. goes (one (Some (moved e.id z)) k) (λ t. refl))
 
 -- two entries that write two parameters, in either order
 writes-comm : (a b : Entry) → Separate a b → (w : Write a.id) (u : Write b.id) (t : Table) → written u (written w t) ≡ written w (written u t)

@@ -4,8 +4,8 @@ use Rattle.std.proofs.Common.{◌≡◌, ℕ, Bool, true, false, cond, not, ◌&
 use borrow.Author.Tests.{eqb-false}
 use Rattle.codec.specs.Refusal.{unknown_parameter, absent_parameter}
 use Rattle.voting.specs.declared.settings.VotingConfig.{VotingConfig}
-use Rattle.voting.specs.declared.table.Value.{Value}
-use Rattle.voting.specs.declared.table.Value.TheVariants.{Absent, Number}
+use Rattle.voting.specs.Value.{Value}
+use Rattle.std.specs.Prelude.{None, Some}
 use Rattle.voting.specs.declared.table.Table.{Table}
 use Rattle.voting.specs.declared.tally.Entry.{Entry}
 use Rattle.voting.specs.declared.ordinary.Voted.{Voted}
@@ -22,9 +22,9 @@ use Rattle.voting.proofs.Laws.Table.{lookup-update-other, update-keeps}
 pub by-vote : (P : (Table → Voted) → Type 0) (g : VotingConfig) (from : Table) (e : Entry)
     → (counts g e ≡ false → P passes)
     → (counts g e ≡ true → known (parameter e.id) ≡ false → P (λ new. stops new unknown_parameter))
-    → (counts g e ≡ true → known (parameter e.id) ≡ true → lookup from (parameter e.id) ≡ Absent → P (λ new. stops new absent_parameter))
-    → ((z : ℤ) → counts g e ≡ true → known (parameter e.id) ≡ true → lookup from (parameter e.id) ≡ Number z
-    → P (λ new. passes (update new (parameter e.id) (Number (moved e.id z)))))
+    → (counts g e ≡ true → known (parameter e.id) ≡ true → lookup from (parameter e.id) ≡ None → P (λ new. stops new absent_parameter))
+    → ((z : ℤ) → counts g e ≡ true → known (parameter e.id) ≡ true → lookup from (parameter e.id) ≡ Some z
+    → P (λ new. passes (update new (parameter e.id) (Some (moved e.id z)))))
     → P (voted g from e)
 unfolding voted approved_vote writes
 by-vote P g from e silent unknown absent moves = go (counts g e) refl (known (parameter e.id)) refl (lookup from (parameter e.id)) refl
@@ -33,8 +33,8 @@ by-vote P g from e silent unknown absent moves = go (counts g e) refl (known (pa
         → P (λ new. cond b (cond k (writes e.id new v) (stops new unknown_parameter)) (passes new))
     go false c k q v l = silent c
     go true c false q v l = unknown c q
-    go true c true q Absent l = absent c q l
-    go true c true q (Number z) l = moves z c q l
+    go true c true q None l = absent c q l
+    go true c true q (Some z) l = moves z c q l
 
 -- Whether the votes are refused: an entry that does not count, or whose parameter is known and there
 unfoldable pub sound : VotingConfig → Table → Entry → Bool
@@ -67,7 +67,7 @@ module _ (P : Table → Type 0) (g : VotingConfig) (from : Table) where
 
   pub voted-carries : (e : Entry) (new : Table) → Kept e → P new → P (voted g from e new).table
   voted-carries e new h p =
-      by-vote (λ f. P (f new).table) g from e (λ c. p) (λ c k. p) (λ c k l. p) (λ z c k l. h c k new (Number (moved e.id z)) p)
+      by-vote (λ f. P (f new).table) g from e (λ c. p) (λ c k. p) (λ c k l. p) (λ z c k l. h c k new (Some (moved e.id z)) p)
 
   onward-carries : (v : Voted) (k : Table → Voted) → P v.table → P (k v.table).table → P (onward v k).table
   unfolding onward

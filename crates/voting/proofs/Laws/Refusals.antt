@@ -13,8 +13,8 @@ use Rattle.voting.specs.ForkPart.{no_round, fork_refused, phase_at, reads_total,
 use Rattle.voting.specs.Ordinary.{onward, voted, ordinary_votes}
 use Rattle.voting.specs.Boundary.{refuses, boundary_of}
 use Rattle.voting.specs.declared.settings.VotingConfig.{VotingConfig}
-use Rattle.voting.specs.declared.table.Value.{Value}
-use Rattle.voting.specs.declared.table.Value.TheVariants.{Absent, Number}
+use Rattle.voting.specs.Value.{Value}
+use Rattle.std.specs.Prelude.{None, Some}
 use Rattle.voting.specs.declared.table.Fork.{Fork}
 use Rattle.voting.specs.declared.table.Table.{Table}
 use Rattle.voting.specs.declared.tally.Entry.{Entry}
@@ -69,9 +69,9 @@ header-other = header-by Other refl refl refl refl
 
 round-other : (g : VotingConfig) (height : ℕ) (start votes : Value) → Other (fork_refusal (check_round g height start votes))
 unfolding check_round fork_refusal
-round-other g height Absent votes = refl
-round-other g height (Number start) Absent = refl
-round-other g height (Number start) (Number votes) = go (barred g height start votes)
+round-other g height None votes = refl
+round-other g height (Some start) None = refl
+round-other g height (Some start) (Some votes) = go (barred g height start votes)
   where
     go : (a : Bool) → Other (fork_refusal (cond a Barred Allowed))
     go true = refl
@@ -92,9 +92,9 @@ gate-other refuses number q n x p r = gate-by refuses (λ y. Other (number y)) n
 
 version-other : (changes : Bool) (next : ℤ → ℤ) (f : Fork) (v : Value) → Other (version_by changes next f v).refusal
 unfolding version_by
-version-other true next f Absent = refl
-version-other false next f Absent = refl
-version-other changes next f (Number z) = refl
+version-other true next f None = refl
+version-other false next f None = refl
+version-other changes next f (Some z) = refl
 
 finished-other : (g : VotingConfig) (height : ℕ) (old : Fork) (round : Round) (f : Forked) → Other f.refusal → Other (finished g height old round f).refusal
 unfolding finished forced
@@ -105,17 +105,17 @@ finished-other g height old round f p =
 
 running-other : (g : VotingConfig) (height : ℕ) (vote : Bool) (votes : ℕ) (old : Fork) (p : Phase) (collected : Value) → Other (running g height vote votes old p collected).refusal
 unfolding running five_steps risen
-running-other g height vote votes old p Absent = go (reads_total p)
+running-other g height vote votes old p None = go (reads_total p)
   where
     go : (a : Bool) → Other (cond a (fork_refused old votes_collected_absent) (finished g height old no_round (record { refusal = 0; fork = old }))).refusal
     go true = refl
     go false = finished-other g height old no_round (record { refusal = 0; fork = old }) refl
-running-other g height vote votes old p (Number n) = finished-other g height old _ _ (version-other _ _ _ _)
+running-other g height vote votes old p (Some n) = finished-other g height old _ _ (version-other _ _ _ _)
 
 by-start-other : (g : VotingConfig) (height : ℕ) (vote : Bool) (votes : ℕ) (old : Fork) (start : Value) → Other (by_start g height vote votes old start).refusal
 unfolding by_start opening
-by-start-other g height vote votes old Absent = finished-other g height old _ _ refl
-by-start-other g height vote votes old (Number s) = running-other g height vote votes old (phase_at g height s) old.votes
+by-start-other g height vote votes old None = finished-other g height old _ _ refl
+by-start-other g height vote votes old (Some s) = running-other g height vote votes old (phase_at g height s) old.votes
 
 fork-part-other : (g : VotingConfig) (height : ℕ) (vote : Bool) (votes : ℕ) (old : Fork) → Other (fork_part g height vote votes old).refusal
 unfolding fork_part

@@ -6,8 +6,8 @@ use lib.Signed.{lt_z}
 use borrow.Author.Tests.{eqb-false}
 use Rattle.codec.specs.Signed.{signed_of}
 use Rattle.voting.specs.declared.settings.VotingConfig.{VotingConfig}
-use Rattle.voting.specs.declared.table.Value.{Value}
-use Rattle.voting.specs.declared.table.Value.TheVariants.{Number}
+use Rattle.voting.specs.Value.{Value}
+use Rattle.std.specs.Prelude.{Some}
 use Rattle.voting.specs.declared.table.Fork.{Fork}
 use Rattle.voting.specs.declared.table.Table.{Table}
 use Rattle.voting.specs.declared.tally.Entry.{Entry}
@@ -46,7 +46,7 @@ none-approved g = le-ltb (voting_length g / 2) 0 (omega arith)
 module _ (g : VotingConfig) (q : ℕ) (z : ℤ) where
   -- the parameter q + 1 with the value z, by the votes for it, one way and the other, of which there are some only one way
   record Moved (up down : ℕ) (v : Value) : Type 0 where
-    value : v ≡ Number (cond (change_approved g up) (raised (suc q) z) (cond (change_approved g down) (lowered (suc q) z) z))
+    value : v ≡ Some (cond (change_approved g up) (raised (suc q) z) (cond (change_approved g down) (lowered (suc q) z) z))
     one_way : (up ≡ 0) ⊎ (down ≡ 0)
 
   abbrev By : List Entry → Value → Type 0
@@ -73,7 +73,7 @@ module _ (g : VotingConfig) (q : ℕ) (z : ℤ) where
   vote id n = record { id = id; count = n }
 
   abbrev after : Entry → Value
-  after e = Number (cond (counts g e) (moved e.id z) z)
+  after e = Some (cond (counts g e) (moved e.id z) z)
 
   module _ (small : q < 9) (es : List Entry) (others : Each Other es) where
     up-here : (n : ℕ) → By (vote (pos (suc q)) n ∷ es) (after (vote (pos (suc q)) n))
@@ -96,29 +96,29 @@ module _ (g : VotingConfig) (q : ℕ) (z : ℤ) where
     here (negsuc m) n i = subst (λ (j : ℕ). By (vote (negsuc j) n ∷ es) (after (vote (negsuc j) n))) (let e : q ≡ m = omega arith in e) (down-here n)
 
   -- one after another, from the table `from`
-  module _ (small : q < 9) (from : Table) (old : lookup from (suc q) ≡ Number z) where
-    voted-here : (e : Entry) (new : Table) → parameter e.id ≡ suc q → lookup new (suc q) ≡ Number z → (voted g from e new).refusal ≡ 0
+  module _ (small : q < 9) (from : Table) (old : lookup from (suc q) ≡ Some z) where
+    voted-here : (e : Entry) (new : Table) → parameter e.id ≡ suc q → lookup new (suc q) ≡ Some z → (voted g from e new).refusal ≡ 0
         → lookup (voted g from e new).table (suc q) ≡ after e
     voted-here e new i h =
         by-vote (λ f. (f new).refusal ≡ 0 → lookup (f new).table (suc q) ≡ after e) g from e
         (λ c r. rw c h) (λ c k r. absurd (omega arith)) (λ c k l r. absurd (omega arith))
         (λ y c k l r. rw c (written y (sym (ap (lookup from) (sym i) ∙ l) ∙ old)))
       where
-        written : (y : ℤ) → Number y ≡ Number z → lookup (update new (parameter e.id) (Number (moved e.id y))) (suc q) ≡ Number (moved e.id z)
+        written : (y : ℤ) → Some y ≡ Some z → lookup (update new (parameter e.id) (Some (moved e.id y))) (suc q) ≡ Some (moved e.id z)
         written y p =
-            subst (λ (m : ℕ). lookup (update new m (Number (moved e.id y))) (suc q) ≡ Number (moved e.id y)) (sym i)
-            (lookup-update-same new (suc q) (Number (moved e.id y)) z (is_known q small (suc q) refl) h)
-            ∙ ap (λ (x : ℤ). Number (moved e.id x)) (let s : y ≡ z = cc in s)
+            subst (λ (m : ℕ). lookup (update new m (Some (moved e.id y))) (suc q) ≡ Some (moved e.id y)) (sym i)
+            (lookup-update-same new (suc q) (Some (moved e.id y)) z (is_known q small (suc q) refl) h)
+            ∙ ap (λ (x : ℤ). Some (moved e.id x)) (let s : y ≡ z = cc in s)
 
-    voted-other : (e : Entry) (new : Table) → Other e → lookup new (suc q) ≡ Number z → lookup (voted g from e new).table (suc q) ≡ Number z
+    voted-other : (e : Entry) (new : Table) → Other e → lookup new (suc q) ≡ Some z → lookup (voted g from e new).table (suc q) ≡ Some z
     voted-other e new o =
-        voted-carries (λ t. lookup t (suc q) ≡ Number z) g from e new (λ c k t y h. lookup-update-other t (parameter e.id) (suc q) y (λ i. o (sym i)) ∙ h)
+        voted-carries (λ t. lookup t (suc q) ≡ Some z) g from e new (λ c k t y h. lookup-update-other t (parameter e.id) (suc q) y (λ i. o (sym i)) ∙ h)
 
     -- the entries behind one for the parameter are for others
     rest-other : (e : Entry) (es : List Entry) → parameter e.id ≡ suc q → Each (Separate e) es → Each Other es
     rest-other e es i = each (Separate e) Other (λ x s j. s.0 (is_known q small (parameter e.id) i) (is_known q small (parameter x.id) j) (i ∙ sym j)) es
 
-    votes-move : (es : List Entry) → Pairwise Separate es → (new : Table) → lookup new (suc q) ≡ Number z → (ordinary_votes g from es new).refusal ≡ 0
+    votes-move : (es : List Entry) → Pairwise Separate es → (new : Table) → lookup new (suc q) ≡ Some z → (ordinary_votes g from es new).refusal ≡ 0
         → By es (lookup (ordinary_votes g from es new).table (suc q))
     unfolding ordinary_votes first_count
     votes-move [] s new h r = record { value = h ∙ rw (none-approved g); one_way = inl refl }
@@ -143,7 +143,7 @@ fork-apart : (t : Table) (f : Fork) (p : ℕ) → known p ≡ true → lookup (w
 fork-apart t f p k = lookup-known (with_fork t f) p k ∙ sym (lookup-known t p k)
 
 -- entry 9 is not made where it is
-subblocks-apart : (off : Bool) (t : Table) (p : ℕ) (y : ℤ) → lookup t p ≡ Number y → lookup (with_subblocks off t) p ≡ Number y
+subblocks-apart : (off : Bool) (t : Table) (p : ℕ) (y : ℤ) → lookup t p ≡ Some y → lookup (with_subblocks off t) p ≡ Some y
 unfolding with_subblocks is_absent
 subblocks-apart off t p y h = go (is_number (lookup t 123) (pos 4) && is_absent (lookup t 9) && not off) refl
   where
@@ -153,19 +153,19 @@ subblocks-apart off t p y h = go (is_number (lookup t 123) (pos 4) && is_absent 
     there : p ≡ 9 → is_absent (lookup t 9) ≡ false
     there e = ap is_absent (ap (lookup t) (sym e) ∙ h)
 
-    go : (b : Bool) → (four && is_absent (lookup t 9) && not off) ≡ b → lookup (cond b (update t 9 (Number (pos 30))) t) p ≡ Number y
+    go : (b : Bool) → (four && is_absent (lookup t 9) && not off) ≡ b → lookup (cond b (update t 9 (Some (pos 30))) t) p ≡ Some y
     go true e =
         let absent = (both four (is_absent (lookup t 9)) (both (four && is_absent (lookup t 9)) (not off) e).0).1 in
-        lookup-update-other t 9 p (Number (pos 30)) (λ q. true≢false (sym absent ∙ there q)) ∙ h
+        lookup-update-other t 9 p (Some (pos 30)) (λ q. true≢false (sym absent ∙ there q)) ∙ h
     go false e = h
 
 module _ (g : VotingConfig) (height : ℕ) (t : Table) (tally : List Entry) (vote disables : Bool) (consistent : Consistent tally) (q : ℕ) (small : q < 9) (z : ℤ)
-    (old : lookup t (suc q) ≡ Number z) where
+    (old : lookup t (suc q) ≡ Some z) where
   boundary-moves : (boundary_of g height t tally vote disables).refusal ≡ 0 → By g q z tally (lookup (boundary_of g height t tally vote disables).table (suc q))
   boundary-moves e =
       let p = passed g height t tally vote disables e in
       let from = forked_by g height t tally vote in
-      let h : lookup from (suc q) ≡ Number z = fork-apart t from.fork (suc q) (is_known q small (suc q) refl) ∙ old in
+      let h : lookup from (suc q) ≡ Some z = fork-apart t from.fork (suc q) (is_known q small (suc q) refl) ∙ old in
       let m = votes-move g q z small from h tally (pairwise Compatible Separate separate tally consistent) from h p.votes-pass in
       record {
         value = ap (λ (x : Table). lookup x (suc q)) p.new-table ∙ subblocks-apart _ (ordinary_votes g from tally from).table (suc q) _ m.value;
@@ -221,7 +221,7 @@ module _ (z s : ℤ) (size : Size z s) where
   stays-there false true below false not-up not-down = refl
   stays-there false false below above not-up not-down = refl
 
-number : (x y : ℤ) → Number x ≡ Number y → x ≡ y
+number : (x y : ℤ) → Some x ≡ Some y → x ≡ y
 number x y e = cc
 
 step_is : (g : VotingConfig) (epoch : List ℕ) (q : ℕ) (z : ℤ) (new : Value) → Moved g q z (counted_for (suc q) epoch) (counted_for (256 - suc q) epoch) new
@@ -231,14 +231,14 @@ step_is g epoch q z new m =
     record {
       up = (
         λ e. (let r = went_up z s size a b c d (number _ _ (sym is ∙ e)) in (r.0, ltb-true half ups r.1)),
-        λ u. is ∙ ap Number (rw (u.0, lt-ltb half ups u.1)),
+        λ u. is ∙ ap Some (rw (u.0, lt-ltb half ups u.1)),
       );
       down = (
         λ e. (let r = went_down z s size a b c d (number _ _ (sym is ∙ e)) in (r.0, ltb-true half downs r.1)),
-        λ u. is ∙ ap Number (goes_down z s size a b c d never u.0 (lt-ltb half downs u.1)),
+        λ u. is ∙ ap Some (goes_down z s size a b c d never u.0 (lt-ltb half downs u.1)),
       );
       not-both = λ u w. one u.1 w.1;
-      stays = λ u w. is ∙ ap Number (stays-there z s size a b c d (λ i j. u (i, ltb-true half ups j)) (λ i j. w (i, ltb-true half downs j)));
+      stays = λ u w. is ∙ ap Some (stays-there z s size a b c d (λ i j. u (i, ltb-true half ups j)) (λ i j. w (i, ltb-true half downs j)));
     }
   where
     half : ℕ
@@ -268,7 +268,7 @@ step_is g epoch q z new m =
     d : Bool
     d = lt_z (least_of (suc q)) z
 
-    is : new ≡ Number (became z s size a b c d)
+    is : new ≡ Some (became z s size a b c d)
     is = m.value
 
     one : half < ups → half < downs → ⊥

@@ -3,8 +3,8 @@
 use Rattle.std.proofs.Common.{◌≡◌, ℕ, ◌+◌, ◌<◌, ◌≤◌, Bool, true, false, cond, not, ◌&&◌, ◌||◌, eqb, List, [], ◌∷◌, length, get_or, drop, pos, refl, ap, ◌∙◌, add-one, arith, drop_of_length-le, drop-cons, w8, SFits, of_z, le-ltb, eq-eqb, ne_eqb, eqb-true}
 use Rattle.codec.specs.Refusal.{unknown_parameter}
 use Rattle.voting.specs.declared.settings.VotingConfig.{VotingConfig}
-use Rattle.voting.specs.declared.table.Value.{Value}
-use Rattle.voting.specs.declared.table.Value.TheVariants.{Absent, Number}
+use Rattle.voting.specs.Value.{Value}
+use Rattle.std.specs.Prelude.{None, Some}
 use Rattle.voting.specs.declared.table.Fork.{Fork}
 use Rattle.voting.specs.declared.table.Table.{Table}
 use Rattle.voting.specs.declared.tally.Entry.{Entry}
@@ -128,8 +128,8 @@ unfolding voted approved_vote writes
 voted-beside g t f e new = go (counts g e) (known (parameter e.id)) refl
   where
     written : (v : Value) → known (parameter e.id) ≡ true → writes e.id (with_fork new f) v ≡ beside f (writes e.id new v)
-    written Absent q = refl
-    written (Number z) q = ap passes (update-beside new f (parameter e.id) (Number (moved e.id z)) q)
+    written None q = refl
+    written (Some z) q = ap passes (update-beside new f (parameter e.id) (Some (moved e.id z)) q)
 
     go : (b k : Bool) → known (parameter e.id) ≡ k
         → cond b (cond k (writes e.id (with_fork new f) (lookup (with_fork t f) (parameter e.id))) (stops (with_fork new f) unknown_parameter)) (passes (with_fork new f))

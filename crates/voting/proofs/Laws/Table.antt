@@ -3,15 +3,14 @@
 use Rattle.std.proofs.Common.{◌≡◌, ℕ, ◌-◌, ◌<◌, ◌≤◌, true, false, eqb, ltb, leb, List, length, get_or, set, ℤ, sym, refl, ap, ◌∙◌, arith, get_or-set_other, get_or-set_same, ltb-false, ltb-true, le-ltb, lt-ltb, ne_eqb, eqb-true, leb-true}
 use lib.ListN.{get_or-eq_default}
 use lib.Seq.{set_comm}
-use Rattle.voting.specs.declared.table.Value.{Value}
-use Rattle.voting.specs.declared.table.Value.TheVariants.{Absent, Number}
-use Rattle.voting.specs.declared.table.Slot.{Slot}
+use Rattle.voting.specs.Value.{Value}
+use Rattle.std.specs.Prelude.{None, Some}
 use Rattle.voting.specs.declared.table.Table.{Table}
-use Rattle.voting.specs.Table.{slot, fork_entries, with_fork, lookup, update}
+use Rattle.voting.specs.Table.{fork_entries, with_fork, lookup, update}
 use Rattle.voting.specs.Ordinary.{known}
 use Rattle.voting.proofs.Laws.Tests.{by-test, both}
 
-pub absent-number : (x : ℤ) → Absent ≡ Number x → ⊥
+pub absent-number : (x : ℤ) → None ≡ Some x → ⊥
 absent-number x e = let z : ◌≡◌ {A = ℕ} 0 1 = cc in omega arith
 
 pub known-range : (m : ℕ) → known m ≡ true → (1 ≤ m) × (m ≤ 9)
@@ -26,32 +25,32 @@ known-tests m k =
 
 -- the ordinary entries of a table with one of them written
 abbrev pub with_ordinary : Table → ℕ → Value → Table
-with_ordinary t m v = record { ordinary = set t.ordinary (m - 1) (slot v); fork = t.fork }
+with_ordinary t m v = record { ordinary = set t.ordinary (m - 1) v; fork = t.fork }
 
 pub update-known : (t : Table) (m : ℕ) (v : Value) → known m ≡ true → update t m v ≡ with_ordinary t m v
 unfolding update
 update-known t m v k = let e = known-tests m k in simp (e.0, e.1, e.2, e.3, e.4)
 
-pub lookup-known : (t : Table) (m : ℕ) → known m ≡ true → lookup t m ≡ (get_or t.ordinary (m - 1) (slot Absent)).value
+pub lookup-known : (t : Table) (m : ℕ) → known m ≡ true → lookup t m ≡ (get_or t.ordinary (m - 1) None)
 unfolding lookup
 lookup-known t m k = let e = known-tests m k in simp (e.0, e.1, e.2, e.3, e.4)
 
 -- no other id has an entry: 0, 10 to 120, and 124 on
-pub lookup-none : (t : Table) (id : ℕ) → (1 ≤ id → 9 < id) → (id ≡ 121 → ⊥) → (id ≡ 122 → ⊥) → (id ≡ 123 → ⊥) → lookup t id ≡ Absent
+pub lookup-none : (t : Table) (id : ℕ) → (1 ≤ id → 9 < id) → (id ≡ 121 → ⊥) → (id ≡ 122 → ⊥) → (id ≡ 123 → ⊥) → lookup t id ≡ None
 unfolding lookup
 lookup-none t id h a b c =
     rw (ne_eqb id 121 a, ne_eqb id 122 b, ne_eqb id 123 c)
     (by-test (ltb id 1) (λ e. rw e) (λ e. rw (e, lt-ltb 9 id (h (ltb-false id 1 e)))))
 
 -- an entry that is there, written
-pub lookup-update-same : (t : Table) (m : ℕ) (v : Value) (z : ℤ) → known m ≡ true → lookup t m ≡ Number z → lookup (update t m v) m ≡ v
+pub lookup-update-same : (t : Table) (m : ℕ) (v : Value) (z : ℤ) → known m ≡ true → lookup t m ≡ Some z → lookup (update t m v) m ≡ v
 lookup-update-same t m v z k e =
     ap (λ (u : Table). lookup u m) (update-known t m v k)
     ∙ lookup-known (with_ordinary t m v) m k
-    ∙ ap (λ (s : Slot). s.value) (get_or-set_same t.ordinary (m - 1) (slot v) (slot Absent) there)
+    ∙ (get_or-set_same t.ordinary (m - 1) v None there)
   where
-    outside : length t.ordinary ≤ m - 1 → Absent ≡ Number z
-    outside h = sym (ap (λ (s : Slot). s.value) (get_or-eq_default t.ordinary (slot Absent) h)) ∙ sym (lookup-known t m k) ∙ e
+    outside : length t.ordinary ≤ m - 1 → None ≡ Some z
+    outside h = sym ((get_or-eq_default t.ordinary None h)) ∙ sym (lookup-known t m k) ∙ e
 
     there : m - 1 < length t.ordinary
     there =
@@ -65,7 +64,7 @@ update_comm t m k v w p q d =
     let s = known-range k q in
     ap (λ (u : Table). update u k w) (update-known t m v p)
     ∙ update-known (with_ordinary t m v) k w q
-    ∙ ap {B = Table} (λ (l : List Slot). record { ordinary = l; fork = t.fork }) (set_comm t.ordinary (m - 1) (k - 1) (slot v) (slot w) (λ e. d (omega arith)))
+    ∙ ap {B = Table} (λ (l : List Value). record { ordinary = l; fork = t.fork }) (set_comm t.ordinary (m - 1) (k - 1) v w (λ e. d (omega arith)))
     ∙ sym (update-known (with_ordinary t k w) m v p)
     ∙ sym (ap (λ (u : Table). update u m v) (update-known t k w q))
 
@@ -96,4 +95,4 @@ lookup-update-other t m k v d =
     (λ e. rw (ne_eqb k 123 (λ q. d (q ∙ sym e))))
     refl
     (λ a b. by-test (ltb k 1) (λ e. rw e)
-    (λ e. rw (get_or-set_other t.ordinary (m - 1) (k - 1) (slot v) (slot Absent) (λ q. d (omega (arith, ltb-false))))))
+    (λ e. rw (get_or-set_other t.ordinary (m - 1) (k - 1) v None (λ q. d (omega (arith, ltb-false))))))

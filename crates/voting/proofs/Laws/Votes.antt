@@ -5,8 +5,8 @@ use mir.ValLaws.{to_z-of_z}
 use borrow.Author.Tests.{not-true, not-false}
 use Rattle.codec.specs.Refusal.{unknown_parameter, absent_parameter}
 use Rattle.voting.specs.declared.settings.VotingConfig.{VotingConfig}
-use Rattle.voting.specs.declared.table.Value.{Value}
-use Rattle.voting.specs.declared.table.Value.TheVariants.{Absent, Number}
+use Rattle.voting.specs.Value.{Value}
+use Rattle.std.specs.Prelude.{None, Some}
 use Rattle.voting.specs.declared.table.Table.{Table}
 use Rattle.voting.specs.declared.tally.Entry.{Entry}
 use Rattle.voting.specs.declared.tally.Tally.{Tally}
@@ -39,16 +39,16 @@ module _ (g : VotingConfig) (from new : Table) (e : Entry) (r : Bool) (is-r : r 
       found : (y : Value) → v ≡ y → writes e.id new y ≡ voted g from e new
       found y q = ap (writes e.id new) (sym q ∙ is-v) ∙ approved true (not-false k here)
 
-      pub vote-absent : v ≡ Absent → stops new absent_parameter ≡ voted g from e new
+      pub vote-absent : v ≡ None → stops new absent_parameter ≡ voted g from e new
       unfolding writes
-      vote-absent q = found Absent q
+      vote-absent q = found None q
 
-      pub vote-writes : (z : ℤ) → v ≡ Number z → SFits w32 z → (x : ℤ) → SFits w32 x → x ≡ moved (to_z w8 (of_z w8 e.id)) (to_z w32 (of_z w32 z))
-          → (t : Table) → t ≡ update new m (Number (to_z w32 (of_z w32 x))) → passes t ≡ voted g from e new
+      pub vote-writes : (z : ℤ) → v ≡ Some z → SFits w32 z → (x : ℤ) → SFits w32 x → x ≡ moved (to_z w8 (of_z w8 e.id)) (to_z w32 (of_z w32 z))
+          → (t : Table) → t ≡ update new m (Some (to_z w32 (of_z w32 x))) → passes t ≡ voted g from e new
       unfolding writes
       vote-writes z q fz x fx is_x t is-t =
-          ap passes (is-t ∙ ap₂ (λ (n : ℕ) (y : ℤ). update new n (Number y)) (is_m ∙ ap parameter id-back) (to_z-of_z w32 x fx ∙ is_x ∙ ap₂ moved id-back (to_z-of_z w32 z fz)))
-          ∙ found (Number z) q
+          ap passes (is-t ∙ ap₂ (λ (n : ℕ) (y : ℤ). update new n (Some y)) (is_m ∙ ap parameter id-back) (to_z-of_z w32 x fx ∙ is_x ∙ ap₂ moved id-back (to_z-of_z w32 z fz)))
+          ∙ found (Some z) q
 
 -- A place of a tally: id 0 holds no entry.
 onward-end : (g : VotingConfig) (from : Table) (v : Voted) → onward v (ordinary_votes g from []) ≡ v

@@ -12,9 +12,9 @@ use lib.Seq.{drop-cons}
 use borrow.Author.Tests.{not-true, not-false, eqb-true, eqb-false, le-leb}
 use Rattle.codec.specs.Refusal.{entry_differs}
 use Rattle.voting.specs.Ordinary.{known}
-use Rattle.voting.specs.Table.{lookup, slot}
-use Rattle.voting.specs.declared.table.Value.{Value}
-use Rattle.voting.specs.declared.table.Value.TheVariants.{Absent}
+use Rattle.voting.specs.Table.{lookup}
+use Rattle.voting.specs.Value.{Value}
+use Rattle.std.specs.Prelude.{None}
 use Rattle.voting.specs.declared.table.Fork.{Fork}
 use Rattle.voting.specs.declared.table.Table.{Table}
 use Rattle.voting.proofs.Laws.Tests.{by-test, both}
@@ -55,14 +55,14 @@ module _ (e f : Table) (k : ℕ) where
         rw (add-one k) (drop-cons table_ids k 0 (omega arith) ∙ ap (λ (n : ℕ). n ∷ drop (suc k) table_ids) (id ∙ add-one k))
 
     abbrev entry : Table → Value
-    entry t = (get_or t.ordinary k (slot Absent)).value
+    entry t = (get_or t.ordinary k None)
 
     entry-is : (t : Table) → lookup t (k + 1) ≡ entry t
     unfolding known
     entry-is t =
         let same : k + 1 - 1 ≡ k = omega arith in
         lookup-known t (k + 1) (rw (le-leb 1 (k + 1) (omega arith), le-leb (k + 1) 9 (omega arith)))
-        ∙ ap (λ (i : ℕ). (get_or t.ordinary i (slot Absent)).value) same
+        ∙ ap (λ (i : ℕ). (get_or t.ordinary i None)) same
 
     module _ (d : Bool) (is-d : d ≡ not (agrees (entry e) (entry f))) where
       pub unlike-here : d ≡ true → k + 1 ≡ first_unlike e f (drop k table_ids)

@@ -10,10 +10,8 @@ use lib.ListN.{length, get_or, set, length-set, length-replicate, get_or-replica
 use lib.Seq.{get_or-set_same, get_or-set_other}
 use borrow.Author.Tests.{not-false, ltb-true, ltb-false, leb-true, eqb-true, eqb-false, eq-eqb, ne_eqb, lt-ltb, le-ltb, le-leb, lt-leb}
 use Rattle.codec.proofs.Laws.Lists.{all-elements}
-use Rattle.voting.specs.Table.{slot}
-use Rattle.voting.specs.declared.table.Value.{Value}
-use Rattle.voting.specs.declared.table.Value.TheVariants.{Absent}
-use Rattle.voting.specs.declared.table.Slot.{Slot}
+use Rattle.voting.specs.Value.{Value}
+use Rattle.std.specs.Prelude.{None}
 use Rattle.voting.proofs.Laws.Tests.{by-test, neither}
 use Rattle.extension.specs.declared.parameters.ParameterMap.{ParameterMap}
 use Rattle.extension.specs.Section.{any}
@@ -63,45 +61,45 @@ has-place a b = by-test (eqb a 0) (λ t. rw t (λ q. refl)) (λ t. rw t (λ q. a
 module _ (m : ParameterMap) (id : ℕ) (v : Value) where
   entry-same : id < length m.entries → entry_of (store m id v) id ≡ v
   unfolding entry_of
-  entry-same h = ap (λ (s : Slot). s.value) (get_or-set_same m.entries id (slot v) (slot Absent) h)
+  entry-same h = (get_or-set_same m.entries id v None h)
 
   entry_other : (k : ℕ) → (k ≡ id → ⊥) → entry_of (store m id v) k ≡ entry_of m k
   unfolding entry_of
-  entry_other k d = ap (λ (s : Slot). s.value) (get_or-set_other m.entries id k (slot v) (slot Absent) d)
+  entry_other k d = (get_or-set_other m.entries id k v None d)
 
 -- the first twelve slots hold the entries of the table's ids; the last one is for all other fields
-pub record Holds (slots : List Slot) (m : ParameterMap) : Type 0 where
+pub record Holds (slots : List Value) (m : ParameterMap) : Type 0 where
   pub thirteen : length slots ≡ 13
   pub each-byte : length m.entries ≡ 256
-  pub same : (j : ℕ) → j < 12 → slot_at slots j ≡ slot (entry_of m (id_at j))
+  pub same : (j : ℕ) → j < 12 → slot_at slots j ≡ (entry_of m (id_at j))
 
 pub holds-none : Holds no_slots no_parameters
 unfolding no_parameters entry_of
 holds-none =
     record {
-      thirteen = length-replicate 13 (slot Absent);
-      each-byte = length-replicate 256 (slot Absent);
+      thirteen = length-replicate {A = Value} 13 None;
+      each-byte = length-replicate {A = Value} 256 None;
       same =
           λ j h.
-          get_or-replicate 13 j (slot Absent) (slot Absent) (omega arith)
-          ∙ sym (ap (λ (s : Slot). slot s.value) (get_or-replicate 256 (id_at j) (slot Absent) (slot Absent) (id-small j h)));
+          get_or-replicate {A = Value} 13 j None None (omega arith)
+          ∙ sym (get_or-replicate {A = Value} 256 (id_at j) None None (id-small j h));
     }
 
 -- a store at a place, where the map changes at the id of that place alone
-module _ (slots : List Slot) (m n : ParameterMap) (w : Holds slots m) (sized : length n.entries ≡ 256) (k : ℕ) (x : Slot)
-    (here : k < 12 → x ≡ slot (entry_of n (id_at k))) (other : (j : ℕ) → j < 12 → (j ≡ k → ⊥) → entry_of n (id_at j) ≡ entry_of m (id_at j)) where
-  same_after : (j : ℕ) → j < 12 → slot_at (set slots k x) j ≡ slot (entry_of n (id_at j))
+module _ (slots : List Value) (m n : ParameterMap) (w : Holds slots m) (sized : length n.entries ≡ 256) (k : ℕ) (x : Value)
+    (here : k < 12 → x ≡ (entry_of n (id_at k))) (other : (j : ℕ) → j < 12 → (j ≡ k → ⊥) → entry_of n (id_at j) ≡ entry_of m (id_at j)) where
+  same_after : (j : ℕ) → j < 12 → slot_at (set slots k x) j ≡ (entry_of n (id_at j))
   same_after j h =
       by-test (eqb j k)
       (λ t.
       let e = eqb-true j k t in
       ap (λ (i : ℕ). slot_at (set slots i x) j) (sym e)
-      ∙ get_or-set_same slots j x (slot Absent) (omega (arith, w.thirteen))
+      ∙ get_or-set_same slots j x None (omega (arith, w.thirteen))
       ∙ here (omega arith)
-      ∙ ap (λ (i : ℕ). slot (entry_of n (id_at i))) (sym e))
+      ∙ ap (λ (i : ℕ). (entry_of n (id_at i))) (sym e))
       (λ t.
       let d = eqb-false j k t in
-      get_or-set_other slots k j x (slot Absent) d ∙ w.same j h ∙ ap slot (sym (other j h d)))
+      get_or-set_other slots k j x None d ∙ w.same j h ∙ (sym (other j h d)))
 
   holds_after : Holds (set slots k x) n
   holds_after = record { thirteen = length-set slots k x ∙ w.thirteen; each-byte = sized; same = same_after }
@@ -110,11 +108,11 @@ taken-size : (f : Field) (m : ParameterMap) → length (taken f m).entries ≡ l
 unfolding taken
 taken-size f m =
     by-test (parameter_key f.key0 f.key1 && eqb (length f.value) 4)
-    (λ t. rw t (length-set m.entries f.key1 (slot (number_in f.value))))
+    (λ t. rw t (length-set m.entries f.key1 (number_in f.value)))
     (λ t. rw t)
 
 -- one field, and all fields, none of them of a wrong size
-module _ (slots : List Slot) (m : ParameterMap) (w : Holds slots m) (f : Field) where
+module _ (slots : List Value) (m : ParameterMap) (w : Holds slots m) (f : Field) where
   abbrev After : ParameterMap → Type 0
   After n = Holds (set slots (place_of f.key0 f.key1) (slot_in f.value)) n
 
@@ -130,8 +128,8 @@ module _ (slots : List Slot) (m : ParameterMap) (w : Holds slots m) (f : Field) 
       let v = number_in f.value in
       let n = store m id v in
       rw (has-place f.key0 id p, l)
-      (holds_after slots m n w (length-set m.entries id (slot v) ∙ w.each-byte) (slot_of id) (slot v)
-      (λ h. sym (ap slot (ap (entry_of n) (slot-back id h) ∙ entry-same m id v (omega (arith, id-small (slot_of id) h, slot-back id h, w.each-byte)))))
+      (holds_after slots m n w (length-set m.entries id v ∙ w.each-byte) (slot_of id) v
+      (λ h. sym ((ap (entry_of n) (slot-back id h) ∙ entry-same m id v (omega (arith, id-small (slot_of id) h, slot-back id h, w.each-byte)))))
       (λ j h d. entry_other m id v (id_at j) (λ z. d (sym (slot-there j h) ∙ ap slot_of z))))
 
   holds-field : wrong_parameter f ≡ false → After (taken f m)
@@ -141,16 +139,16 @@ module _ (slots : List Slot) (m : ParameterMap) (w : Holds slots m) (f : Field) 
       (λ p. rw p (λ q. let l = not-false (eqb (length f.value) 4) q in rw l (field_stored p l)))
       (λ p. rw p (λ q. field-passed p))
 
-pub holds-stored : (fs : List Field) (slots : List Slot) (m : ParameterMap) → Holds slots m → any wrong_parameter fs ≡ false → Holds (stored fs slots) (parameters_in fs m)
+pub holds-stored : (fs : List Field) (slots : List Value) (m : ParameterMap) → Holds slots m → any wrong_parameter fs ≡ false → Holds (stored fs slots) (parameters_in fs m)
 unfolding stored parameters_in any
 holds-stored [] slots m w q = w
 holds-stored (f ∷ fs) slots m w q =
     let r = neither (wrong_parameter f) (any wrong_parameter fs) q in holds-stored fs _ (taken f m) (holds-field slots m w f r.0) r.1
 
-pub table-holds : (slots : List Slot) (m : ParameterMap) → Holds slots m → table_from slots ≡ table_in m
+pub table-holds : (slots : List Value) (m : ParameterMap) → Holds slots m → table_from slots ≡ table_in m
 unfolding table_from table_in
 table-holds slots m w =
-    let e : (j : ℕ) → j < 12 → slot_at slots j ≡ slot (entry_of m (id_at j)) = w.same in
+    let e : (j : ℕ) → j < 12 → slot_at slots j ≡ (entry_of m (id_at j)) = w.same in
     rw (
       e 0 (omega arith),
       e 1 (omega arith),
@@ -168,10 +166,10 @@ table-holds slots m w =
 
 -- a value
 module _ (v : List ℕ) where
-  pub slot-other : (length v ≡ 4 → ⊥) → slot Absent ≡ slot_in v
+  pub slot-other : (length v ≡ 4 → ⊥) → None ≡ slot_in v
   unfolding slot_in
   slot-other d = rw (ne_eqb _ _ d)
 
-  pub slot-four : length v ≡ 4 → (x : Value) → x ≡ number_in (get_or v 0 0 ∷ get_or v 1 0 ∷ get_or v 2 0 ∷ get_or v 3 0 ∷ []) → slot x ≡ slot_in v
+  pub slot-four : length v ≡ 4 → (x : Value) → x ≡ number_in (get_or v 0 0 ∷ get_or v 1 0 ∷ get_or v 2 0 ∷ get_or v 3 0 ∷ []) → x ≡ slot_in v
   unfolding slot_in
-  slot-four l x q = rw (eq-eqb _ _ l) (ap slot (q ∙ ap number_in (all-elements 4 v l)))
+  slot-four l x q = rw (eq-eqb _ _ l) ((q ∙ ap number_in (all-elements 4 v l)))

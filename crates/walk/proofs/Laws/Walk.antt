@@ -8,7 +8,7 @@ use native.Mathlib.Omega.{arith}
 use lib.ListN.{length, set}
 use borrow.Author.Tests.{not-true}
 use Rattle.codec.specs.Refusal.{parameter_size}
-use Rattle.voting.specs.declared.table.Slot.{Slot}
+use Rattle.voting.specs.Value.{Value}
 use Rattle.voting.specs.declared.table.Table.{Table}
 use Rattle.voting.proofs.Laws.Tests.{by-test, both}
 use Rattle.extension.specs.declared.section.Parsed.{Parsed}
@@ -68,7 +68,7 @@ abbrev listed : List ℕ → ℕ → ℕ → Listing Field
 listed s n at = listing (read_field s) n at
 
 -- a place in the pass: what was kept so far, with what is left of the fields, gives what all of them give
-pub record Walking (s : List ℕ) (count begin left at : ℕ) (wrong seen : Bool) (start end : ℕ) (found : List Slot) : Type 0 where
+pub record Walking (s : List ℕ) (count begin left at : ℕ) (wrong seen : Bool) (start end : ℕ) (found : List Value) : Type 0 where
   pub closes : closed count begin (listed s left at) ≡ closed count begin (listed s count begin)
   pub wrongs : (wrong || any wrong_parameter (items (listed s left at))) ≡ any wrong_parameter (items (listed s count begin))
   pub ordered : start ≤ end
@@ -81,10 +81,10 @@ pub walk_begins : (s : List ℕ) (count begin : ℕ) → Walking s count begin c
 walk_begins s count begin =
     record { closes = refl; wrongs = refl; ordered = omega arith; inside = omega arith; unseen = λ z. refl; update = refl; slots = refl }
 
-module _ (s : List ℕ) (count begin left at : ℕ) (wrong seen : Bool) (start end : ℕ) (found : List Slot) (w : Walking s count begin left at wrong seen start end found) where
+module _ (s : List ℕ) (count begin left at : ℕ) (wrong seen : Bool) (start end : ℕ) (found : List Value) (w : Walking s count begin left at wrong seen start end found) where
   -- a field
   module _ (more : 0 < left) (f : FieldPlace) (e : HasField f ≡ field_at s at) (bad : Bool) (is-bad : bad ≡ wrong_size f.key0 f.key1 (f.end - f.start))
-      (k : ℕ) (is-k : k ≡ place_of f.key0 f.key1) (x : Slot) (is_x : x ≡ slot_in (part s f.start f.end)) (u : Bool) (is-u : u ≡ update_key f.key0 f.key1) where
+      (k : ℕ) (is-k : k ≡ place_of f.key0 f.key1) (x : Value) (is_x : x ≡ slot_in (part s f.start f.end)) (u : Bool) (is-u : u ≡ update_key f.key0 f.key1) where
     next : listed s left at ≡ item (field_in s f) (listed s (left - 1) f.end)
     next = listing-item (read_field s) left at more (field_in s f) f.end (field-read s at f e)
 

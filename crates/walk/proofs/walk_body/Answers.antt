@@ -11,13 +11,13 @@ pub returns-then-body-lt-HEADER_ID_SIZE : goal.returns-then-body-lt-HEADER_ID_SI
 returns-then-body-lt-HEADER_ID_SIZE c = refused-is _ _ (body-short _ c.if-body-gt-INPUT_MOST.false c.if-body-lt-HEADER_ID_SIZE.true) _ c.refused-then-body-lt-HEADER_ID_SIZE.ensures
 
 pub overflow_cast-m : goal.overflow_cast-m
-overflow_cast-m c = record { fits = (read-inside 32 _ _ _ (sym c.in-Value.is ∙ c.read_u32.ensures)).value-fits }
+overflow_cast-m c = record { fits = (read-inside 32 _ _ _ (sym c.in-Some.is ∙ c.read_u32.ensures)).value-fits }
 
 pub walk_fields-requires : goal.walk_fields-requires
-walk_fields-requires c = (c.if-body-gt-INPUT_MOST.false, body-counted _ c.if-body-gt-INPUT_MOST.false c.if-body-lt-HEADER_ID_SIZE.false _ (sym c.in-Value.is ∙ c.read_u32.ensures))
+walk_fields-requires c = (c.if-body-gt-INPUT_MOST.false, body-counted _ c.if-body-gt-INPUT_MOST.false c.if-body-lt-HEADER_ID_SIZE.false _ (sym c.in-Some.is ∙ c.read_u32.ensures))
 
-pub returns-in-Value : goal.returns-in-Value
-returns-in-Value c = c.walk_fields.ensures
+pub returns-in-Some : goal.returns-in-Some
+returns-in-Some c = c.walk_fields.ensures
 
-pub returns-in-Unreadable : goal.returns-in-Unreadable
-returns-in-Unreadable c = refused-is _ _ (body-uncounted _ c.if-body-gt-INPUT_MOST.false c.if-body-lt-HEADER_ID_SIZE.false (sym c.in-Unreadable.is ∙ c.read_u32.ensures)) _ c.refused-in-Unreadable.ensures
+pub returns-in-None : goal.returns-in-None
+returns-in-None c = refused-is _ _ (body-uncounted _ c.if-body-gt-INPUT_MOST.false c.if-body-lt-HEADER_ID_SIZE.false (sym c.in-None.is ∙ c.read_u32.ensures)) _ c.refused-in-None.ensures

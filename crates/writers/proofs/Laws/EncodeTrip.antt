@@ -5,7 +5,7 @@ use lib.Signed.{lt_z}
 use lib.Seq.{take-append_seam}
 use Rattle.codec.specs.Vlq.{vlq_at, vlq_bytes}
 use Rattle.codec.specs.Rule.{offset_of}
-use Rattle.codec.specs.declared.vlq.Read.TheVariants.{Value}
+use Rattle.std.specs.Prelude.{Some}
 use Rattle.codec.proofs.Laws.Rule.{offset-fits, rule-back}
 use Rattle.codec.proofs.Laws.VlqTrip.{written-read-at, read-inside}
 use Rattle.voting.specs.Common.{Each}
@@ -71,7 +71,7 @@ rule_fits (negsuc n) e f = absurd (let z : ◌≡◌ {A = ℕ} 0 1 = cc in omega
 
 -- a status where the offset and the size were read
 status-at : (rule : ℤ) (code m : ℕ) (raw s t : List ℕ) → drop m s ≡ code ∷ (raw ++ t)
-    → status_reading s (placed_status s rule (Value (record { value = length raw; next = m }))) ≡ got (record { rule = rule; code = code; raw = raw }) (m + 1 + length raw)
+    → status_reading s (placed_status s rule (Some (record { value = length raw; next = m }))) ≡ got (record { rule = rule; code = code; raw = raw }) (m + 1 + length raw)
 unfolding placed_status status_reading
 status-at rule code m raw s t e =
     let h : m + 1 + length raw ≤ length s = omega (arith, length-drop m s, ap length e, length-append raw t) in

@@ -7,8 +7,8 @@ use Rattle.codec.specs.Vlq.{vlq_bytes}
 use Rattle.codec.specs.BigEndian.{big_endian_bytes}
 use Rattle.codec.specs.Output.{wrote, refused, writes, writing}
 use Rattle.codec.proofs.Laws.Output as output
-use Rattle.voting.specs.declared.table.Value.{Value}
-use Rattle.voting.specs.declared.table.Value.TheVariants.{Absent, Number}
+use Rattle.voting.specs.Value.{Value}
+use Rattle.std.specs.Prelude.{None, Some}
 use Rattle.extension.specs.declared.parameters.ParameterMap.{ParameterMap}
 use Rattle.extension.specs.Section.{Listing, done, stop, item, items, refusal_of, any}
 use Rattle.extension.specs.Body.{Field}
@@ -134,26 +134,26 @@ module _ (id fields cells : List ℕ) {w : Survey} {e : ℕ} (is-w : w ≡ surve
 
 -- the bytes of one parameter
 module _ (id : ℕ) where
-  pub entry_absent : (v : Value) → v ≡ Absent → entry_bytes id v ≡ []
+  pub entry_absent : (v : Value) → v ≡ None → entry_bytes id v ≡ []
   unfolding entry_bytes
   entry_absent v e = rw e
 
-  pub entry-dropped : (v : Value) (x : ℤ) → v ≡ Number x → id ≡ 124 → entry_bytes id v ≡ []
+  pub entry-dropped : (v : Value) (x : ℤ) → v ≡ Some x → id ≡ 124 → entry_bytes id v ≡ []
   unfolding entry_bytes
   entry-dropped v x e q = rw (e, eq-eqb id 124 q)
 
-  pub entry-number : (v : Value) (x : ℤ) → v ≡ Number x → (id ≡ 124 → ⊥) → entry_bytes id v ≡ number_bytes id x
+  pub entry-number : (v : Value) (x : ℤ) → v ≡ Some x → (id ≡ 124 → ⊥) → entry_bytes id v ≡ number_bytes id x
   unfolding entry_bytes
   entry-number v x e q = rw (e, ne_eqb id 124 q)
 
-  pub entry-seven : (v : Value) (x : ℤ) → v ≡ Number x → (id ≡ 124 → ⊥) → 7 ≡ length (entry_bytes id v)
+  pub entry-seven : (v : Value) (x : ℤ) → v ≡ Some x → (id ≡ 124 → ⊥) → 7 ≡ length (entry_bytes id v)
   unfolding big_endian_bytes
   entry-seven v x e q = rw (entry-number v x e q)
 
   pub entry-most : (v : Value) → length (entry_bytes id v) ≤ 7
   unfolding entry_bytes big_endian_bytes
-  entry-most Absent = omega arith
-  entry-most (Number x) = go (eqb id 124)
+  entry-most None = omega arith
+  entry-most (Some x) = go (eqb id 124)
     where
       go : (t : Bool) → length (cond t [] (number_bytes id x)) ≤ 7
       go true = omega arith

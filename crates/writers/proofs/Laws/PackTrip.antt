@@ -12,10 +12,8 @@ use Rattle.codec.specs.Signed.{bits_of}
 use Rattle.codec.specs.BigEndian.{big_endian_bytes}
 use Rattle.codec.proofs.Laws.BigEndian.{bytes-length, number-back}
 use Rattle.codec.proofs.Laws.VlqTrip.{written-read-at, at-most-ten}
-use Rattle.voting.specs.Table.{slot}
-use Rattle.voting.specs.declared.table.Slot.{Slot}
-use Rattle.voting.specs.declared.table.Value.{Value}
-use Rattle.voting.specs.declared.table.Value.TheVariants.{Absent, Number}
+use Rattle.voting.specs.Value.{Value}
+use Rattle.std.specs.Prelude.{None, Some}
 use Rattle.voting.proofs.Laws.Tests.{by-test, neither}
 use Rattle.extension.specs.declared.parameters.ParameterMap.{ParameterMap}
 use Rattle.extension.specs.Section.{bad, Listing, done, stop, item, listing, items, refusal_of, section, closed, section_items, any}
@@ -176,8 +174,8 @@ abbrev entry_field : ℕ → ℤ → Field
 entry_field id z = record { key0 = 0; key1 = id; value = big_endian_bytes 4 (bits_of 32 z) }
 
 abbrev entry_fields : ℕ → Value → List Field
-entry_fields id Absent = []
-entry_fields id (Number z) = cond (eqb id 124) [] (entry_field id z ∷ [])
+entry_fields id None = []
+entry_fields id (Some z) = cond (eqb id 124) [] (entry_field id z ∷ [])
 
 unfoldable fields_for : ℕ → ℕ → ParameterMap → List Field
 fields_for zero id m = []
@@ -186,8 +184,8 @@ fields_for (suc n) id m = entry_fields id (entry_of m id) ++ fields_for n ((id +
 -- none of them long, and no more of them than ids
 entry-short : (id : ℕ) (v : Value) (fs : List Field) → any long_value fs ≡ false → any long_value (entry_fields id v ++ fs) ≡ false
 unfolding any long_value big_endian_bytes
-entry-short id Absent fs e = e
-entry-short id (Number z) fs e = go (eqb id 124)
+entry-short id None fs e = e
+entry-short id (Some z) fs e = go (eqb id 124)
   where
     go : (t : Bool) → any long_value (cond t [] (entry_field id z ∷ []) ++ fs) ≡ false
     go true = e
@@ -199,8 +197,8 @@ all_short m zero id = refl
 all_short m (suc n) id = entry-short id (entry_of m id) (fields_for n ((id + 1) % 256) m) (all_short m n ((id + 1) % 256))
 
 entry-once : (id : ℕ) (v : Value) (fs : List Field) → length (entry_fields id v ++ fs) ≤ suc (length fs)
-entry-once id Absent fs = omega arith
-entry-once id (Number z) fs = go (eqb id 124)
+entry-once id None fs = omega arith
+entry-once id (Some z) fs = go (eqb id 124)
   where
     go : (t : Bool) → length (cond t [] (entry_field id z ∷ []) ++ fs) ≤ suc (length fs)
     go true = omega arith
@@ -214,8 +212,8 @@ all_once m (suc n) id = omega (arith, entry-once id (entry_of m id) (fields_for 
 -- the bytes of parameters are the bytes of these fields
 entry-is : (id : ℕ) (v : Value) (fs : List Field) → entry_bytes id v ++ fields_bytes fs ≡ fields_bytes (entry_fields id v ++ fs)
 unfolding entry_bytes fields_bytes field_bytes big_endian_bytes
-entry-is id Absent fs = refl
-entry-is id (Number z) fs = go (eqb id 124)
+entry-is id None fs = refl
+entry-is id (Some z) fs = go (eqb id 124)
   where
     go : (t : Bool) → cond t [] (number_bytes id z) ++ fields_bytes fs ≡ fields_bytes (cond t [] (entry_field id z ∷ []) ++ fs)
     go true = refl
@@ -235,57 +233,57 @@ parameters-listed m = rw (entries-are m 256 128) (fields-listed (fields_for 256 
 -- an entry that was stored, and any other
 pub store_same : (m : ParameterMap) (id : ℕ) (v : Value) → id < length m.entries → entry_of (store m id v) id ≡ v
 unfolding entry_of
-store_same m id v h = ap (λ (x : Slot). x.value) (get_or-set_same m.entries id (slot v) (slot Absent) h)
+store_same m id v h = get_or-set_same m.entries id v None h
 
 pub store_other : (m : ParameterMap) (id at : ℕ) (v : Value) → (at ≡ id → ⊥) → entry_of (store m id v) at ≡ entry_of m at
 unfolding entry_of
-store_other m id at v n = ap (λ (x : Slot). x.value) (get_or-set_other m.entries id at (slot v) (slot Absent) n)
+store_other m id at v n = get_or-set_other m.entries id at v None n
 
 -- the entries after one parameter was read
 abbrev stored : ℕ → Value → ParameterMap → ParameterMap
-stored id Absent m = m
-stored id (Number z) m = cond (eqb id 124) m (store m id (Number z))
+stored id None m = m
+stored id (Some z) m = cond (eqb id 124) m (store m id (Some z))
 
-entry-taken : (id : ℕ) (z : ℤ) (m : ParameterMap) → SFits w32 z → eqb id 124 ≡ false → taken (entry_field id z) m ≡ store m id (Number z)
+entry-taken : (id : ℕ) (z : ℤ) (m : ParameterMap) → SFits w32 z → eqb id 124 ≡ false → taken (entry_field id z) m ≡ store m id (Some z)
 unfolding taken parameter_key number_in
 entry-taken id z m f e = rw (e, bytes-length 4 (bits_of 32 z), number-back z f)
 
 take-entry : (id : ℕ) (v : Value) (fs : List Field) (m : ParameterMap) → Held v → parameters_in (entry_fields id v ++ fs) m ≡ parameters_in fs (stored id v m)
 unfolding parameters_in
-take-entry id Absent fs m h = refl
-take-entry id (Number z) fs m h = go (eqb id 124) refl
+take-entry id None fs m h = refl
+take-entry id (Some z) fs m h = go (eqb id 124) refl
   where
-    go : (t : Bool) → eqb id 124 ≡ t → parameters_in (cond t [] (entry_field id z ∷ []) ++ fs) m ≡ parameters_in fs (cond t m (store m id (Number z)))
+    go : (t : Bool) → eqb id 124 ≡ t → parameters_in (cond t [] (entry_field id z ∷ []) ++ fs) m ≡ parameters_in fs (cond t m (store m id (Some z)))
     go true e = refl
     go false e = ap (parameters_in fs) (entry-taken id z m h e)
 
 stored-length : (id : ℕ) (v : Value) (m : ParameterMap) → length (stored id v m).entries ≡ length m.entries
-stored-length id Absent m = refl
-stored-length id (Number z) m = go (eqb id 124)
+stored-length id None m = refl
+stored-length id (Some z) m = go (eqb id 124)
   where
-    go : (t : Bool) → length (cond t m (store m id (Number z))).entries ≡ length m.entries
+    go : (t : Bool) → length (cond t m (store m id (Some z))).entries ≡ length m.entries
     go true = refl
-    go false = length-set m.entries id (slot (Number z))
+    go false = length-set m.entries id (Some z)
 
 stored_other : (id at : ℕ) (v : Value) (m : ParameterMap) → (at ≡ id → ⊥) → entry_of (stored id v m) at ≡ entry_of m at
-stored_other id at Absent m n = refl
-stored_other id at (Number z) m n = go (eqb id 124)
+stored_other id at None m n = refl
+stored_other id at (Some z) m n = go (eqb id 124)
   where
-    go : (t : Bool) → entry_of (cond t m (store m id (Number z))) at ≡ entry_of m at
+    go : (t : Bool) → entry_of (cond t m (store m id (Some z))) at ≡ entry_of m at
     go true = refl
-    go false = store_other m id at (Number z) n
+    go false = store_other m id at (Some z) n
 
-stored_same : (id : ℕ) (v : Value) (m : ParameterMap) → id < length m.entries → entry_of m id ≡ Absent → entry_of (stored id v m) id ≡ cond (eqb id 124) Absent v
-stored_same id Absent m h e = e ∙ go (eqb id 124)
+stored_same : (id : ℕ) (v : Value) (m : ParameterMap) → id < length m.entries → entry_of m id ≡ None → entry_of (stored id v m) id ≡ cond (eqb id 124) None v
+stored_same id None m h e = e ∙ go (eqb id 124)
   where
-    go : (t : Bool) → Absent ≡ cond t Absent Absent
+    go : (t : Bool) → ◌≡◌ {A = Value} None (cond t None None)
     go true = refl
     go false = refl
-stored_same id (Number z) m h e = go (eqb id 124)
+stored_same id (Some z) m h e = go (eqb id 124)
   where
-    go : (t : Bool) → entry_of (cond t m (store m id (Number z))) id ≡ cond t Absent (Number z)
+    go : (t : Bool) → entry_of (cond t m (store m id (Some z))) id ≡ cond t None (Some z)
     go true = e
-    go false = store_same m id (Number z) h
+    go false = store_same m id (Some z) h
 
 -- an id that is not among the n ids from one on keeps its entry; one that is among them gets the entry that was written
 module _ (m : ParameterMap) (held : (id : ℕ) → Held (entry_of m id)) (id : ℕ) (small : id < 256) where
@@ -298,8 +296,8 @@ module _ (m : ParameterMap) (held : (id : ℕ) → Held (entry_of m id)) (id : �
       passed n next (stored from (entry_of m from) a) (omega arith) (omega arith) ∙
       stored_other from id (entry_of m from) a (λ e. omega arith)
 
-  reached : (n from : ℕ) (a : ParameterMap) → from < 256 → n ≤ 256 → (id + 256 - from) % 256 < n → length a.entries ≡ 256 → entry_of a id ≡ Absent
-      → entry_of (parameters_in (fields_for n from m) a) id ≡ cond (eqb id 124) Absent (entry_of m id)
+  reached : (n from : ℕ) (a : ParameterMap) → from < 256 → n ≤ 256 → (id + 256 - from) % 256 < n → length a.entries ≡ 256 → entry_of a id ≡ None
+      → entry_of (parameters_in (fields_for n from m) a) id ≡ cond (eqb id 124) None (entry_of m id)
   unfolding fields_for parameters_in
   reached zero from a f h i l e = absurd (omega arith)
   reached (suc n) from a f h i l e =
@@ -308,30 +306,30 @@ module _ (m : ParameterMap) (held : (id : ℕ) → Held (entry_of m id)) (id : �
       by-test (eqb id from)
       (λ t. let q : id ≡ from = eqb-true id from t in
       passed n next (stored from (entry_of m from) a) (omega arith) (omega arith) ∙
-      subst (λ (k : ℕ). entry_of (stored k (entry_of m k) a) id ≡ cond (eqb id 124) Absent (entry_of m id)) q (stored_same id (entry_of m id) a (omega arith) e))
+      subst (λ (k : ℕ). entry_of (stored k (entry_of m k) a) id ≡ cond (eqb id 124) None (entry_of m id)) q (stored_same id (entry_of m id) a (omega arith) e))
       (λ t. let q = eqb-false id from t in
       reached n next (stored from (entry_of m from) a) (omega arith) (omega arith) (omega arith) (stored-length from (entry_of m from) a ∙ l) (stored_other from id (entry_of m from) a q ∙ e))
 
-pub no-entry : (id : ℕ) → id < 256 → entry_of no_parameters id ≡ Absent
+pub no-entry : (id : ℕ) → id < 256 → entry_of no_parameters id ≡ None
 unfolding entry_of no_parameters
-no-entry id h = rw (get_or-replicate 256 id (slot Absent) (slot Absent) h)
+no-entry id h = rw (get_or-replicate {A = Value} 256 id None None h)
 
 pub no_length : length no_parameters.entries ≡ 256
 unfolding no_parameters
-no_length = length-replicate 256 (slot Absent)
+no_length = length-replicate {A = Value} 256 None
 
 -- the parameters that were written are a list of fields, and taken into the map they are the parameters without 124
 parameters-pack : (m : ParameterMap) → pack_refusal (wire_fields (parameter_bytes m)) ≡ 0
 parameters-pack m = fine (wire_fields (parameter_bytes m)) (fields_for 256 128 m) (parameters-listed m) (omega (arith, all_once m 256 128)) (all_short m 256 128)
 
-parameters-taken : (m : ParameterMap) → Sound m → (id : ℕ) → id ≤ 255 → entry_of (parameters_in (fields_for 256 128 m) no_parameters) id ≡ cond (eqb id 124) Absent (entry_of m id)
+parameters-taken : (m : ParameterMap) → Sound m → (id : ℕ) → id ≤ 255 → entry_of (parameters_in (fields_for 256 128 m) no_parameters) id ≡ cond (eqb id 124) None (entry_of m id)
 parameters-taken m held id h = reached m held id (omega arith) 256 128 no_parameters (omega arith) (omega arith) (omega arith) no_length (no-entry id (omega arith))
 
 -- every one of them has four bytes
 entry-right : (id : ℕ) (v : Value) (fs : List Field) → any wrong_parameter fs ≡ false → any wrong_parameter (entry_fields id v ++ fs) ≡ false
 unfolding any wrong_parameter wrong_size parameter_key big_endian_bytes
-entry-right id Absent fs e = e
-entry-right id (Number z) fs e = go (eqb id 124)
+entry-right id None fs e = e
+entry-right id (Some z) fs e = go (eqb id 124)
   where
     none : (t : Bool) → (not t && false) || any wrong_parameter fs ≡ false
     none true = e

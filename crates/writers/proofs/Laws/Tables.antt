@@ -4,9 +4,9 @@ use Rattle.std.proofs.Common.{◌≡◌, ℕ, suc, ◌+◌, ◌<◌, ◌≤◌, 
 use mathlib.Core.Path.{subst⁻¹}
 use borrow.Author.Tests.{eqb-false}
 use Rattle.voting.specs.Common.{Each}
-use Rattle.voting.specs.Table.{lookup, slot}
-use Rattle.voting.specs.declared.table.Value.{Value}
-use Rattle.voting.specs.declared.table.Value.TheVariants.{Absent}
+use Rattle.voting.specs.Table.{lookup}
+use Rattle.voting.specs.Value.{Value}
+use Rattle.std.specs.Prelude.{None}
 use Rattle.voting.specs.declared.table.Table.{Table}
 use Rattle.voting.proofs.Laws.Tests.{by-test, neither}
 use Rattle.voting.proofs.Laws.Table.{absent-number, lookup-none}
@@ -39,7 +39,7 @@ module _ (t : Table) (id : ℕ) (small : id < 256) where
   unfolding entries_in any
   stored-entry [] m l = refl
   stored-entry (x ∷ ids) m l =
-      stored-entry ids (store m x (lookup t x)) (length-set m.entries x (slot (lookup t x)) ∙ l) ∙ go (eqb id x) (any (eqb id) ids) refl
+      stored-entry ids (store m x (lookup t x)) (length-set m.entries x (lookup t x) ∙ l) ∙ go (eqb id x) (any (eqb id) ids) refl
     where
       go : (a b : Bool) → eqb id x ≡ a → cond b (lookup t id) (entry_of (store m x (lookup t x)) id) ≡ cond (a || b) (lookup t id) (entry_of m id)
       go true true e = refl
@@ -56,7 +56,7 @@ past : (id n : ℕ) → (id ≡ n → ⊥) → n ≤ id → suc n ≤ id
 past id n d h = omega arith
 
 -- no other id has an entry
-no_other : (t : Table) (id : ℕ) → Each (λ x. id ≡ x → ⊥) table_ids → lookup t id ≡ Absent
+no_other : (t : Table) (id : ℕ) → Each (λ x. id ≡ x → ⊥) table_ids → lookup t id ≡ None
 unfolding table_ids
 no_other t id n₁ =
     let n₂ = n₁.1 in

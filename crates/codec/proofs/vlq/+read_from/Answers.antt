@@ -11,10 +11,10 @@ returns-then-s-at t c = end _ _ _ c.if-s-at.true
 pub returns-then-b-lt128 : goal.returns-then-b-lt128
 returns-then-b-lt128 t c = last _ _ _ c.if-s-at.false c.if-left-eq0.false c.if-b-lt128.true
 
-pub returns-in-Value : goal.returns-in-Value
-returns-in-Value t c =
-    more _ _ _ c.if-s-at.false c.if-left-eq0.false c.if-b-lt128.false _ (sym c.in-Value.is ∙ c.read_from.ensures)
+pub returns : goal.returns
+returns t c =
+    more _ _ _ c.if-s-at.false c.if-left-eq0.false c.if-b-lt128.false _ (sym c.in_ok-n.was ∙ c.read_from.ensures)
 
-pub returns-in-Unreadable : goal.returns-in-Unreadable
-returns-in-Unreadable t c =
-    stops _ _ _ c.if-s-at.false c.if-left-eq0.false c.if-b-lt128.false (sym c.in-Unreadable.is ∙ c.read_from.ensures)
+pub returns-in_err-n : goal.returns-in_err-n
+returns-in_err-n t c = c.from_residual.ensures
+    ∙ stops _ _ _ c.if-s-at.false c.if-left-eq0.false c.if-b-lt128.false (sym c.in_err-n.was ∙ c.read_from.ensures)

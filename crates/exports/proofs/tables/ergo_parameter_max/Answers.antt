@@ -2,7 +2,7 @@ use Rattle.voting.specs.Ordinary.{parameter_max}
 use mir.Val.{SFits}
 use mir.Syntax.{w8}
 use mir.ValLaws.{to_z-of_z}
-use Rattle.voting.specs.declared.table.Value.{Value}
+use Rattle.voting.specs.Value.{Value}
 use Rattle.wire.specs.Values.{value_bytes}
 use Rattle.codec.specs.Output.{writes}
 use mathlib.Core.Path.{ap, ◌∙◌}

@@ -21,24 +21,24 @@ returns-then-body-lt-HEADER_ID_SIZE c = record {
 }
 
 pub overflow_cast-m : goal.overflow_cast-m
-overflow_cast-m c = record { fits = (read-inside 32 _ _ _ (sym c.in-Value.is ∙ c.read_u32.ensures)).value-fits }
+overflow_cast-m c = record { fits = (read-inside 32 _ _ _ (sym c.in-Some.is ∙ c.read_u32.ensures)).value-fits }
 
-pub returns-in-Value : goal.returns-in-Value
-returns-in-Value c = record {
+pub returns-in-Some : goal.returns-in-Some
+returns-in-Some c = record {
   value = (parsed-again _ _
       (c.fields_section.ensures
-      ∙ body-counted _ c.if-body-gt-INPUT_MOST.false c.if-body-lt-HEADER_ID_SIZE.false _ (sym c.in-Value.is ∙ c.read_u32.ensures))).0;
+      ∙ body-counted _ c.if-body-gt-INPUT_MOST.false c.if-body-lt-HEADER_ID_SIZE.false _ (sym c.in-Some.is ∙ c.read_u32.ensures))).0;
   again = (parsed-again _ _
       (c.fields_section.ensures
-      ∙ body-counted _ c.if-body-gt-INPUT_MOST.false c.if-body-lt-HEADER_ID_SIZE.false _ (sym c.in-Value.is ∙ c.read_u32.ensures))).1;
+      ∙ body-counted _ c.if-body-gt-INPUT_MOST.false c.if-body-lt-HEADER_ID_SIZE.false _ (sym c.in-Some.is ∙ c.read_u32.ensures))).1;
 }
 
-pub returns-in-Unreadable : goal.returns-in-Unreadable
-returns-in-Unreadable c = record {
+pub returns-in-None : goal.returns-in-None
+returns-in-None c = record {
   value = (parsed-again _ _
-      (c.refused-in-Unreadable.ensures
-      ∙ body-uncounted _ c.if-body-gt-INPUT_MOST.false c.if-body-lt-HEADER_ID_SIZE.false (sym c.in-Unreadable.is ∙ c.read_u32.ensures))).0;
+      (c.refused-in-None.ensures
+      ∙ body-uncounted _ c.if-body-gt-INPUT_MOST.false c.if-body-lt-HEADER_ID_SIZE.false (sym c.in-None.is ∙ c.read_u32.ensures))).0;
   again = (parsed-again _ _
-      (c.refused-in-Unreadable.ensures
-      ∙ body-uncounted _ c.if-body-gt-INPUT_MOST.false c.if-body-lt-HEADER_ID_SIZE.false (sym c.in-Unreadable.is ∙ c.read_u32.ensures))).1;
+      (c.refused-in-None.ensures
+      ∙ body-uncounted _ c.if-body-gt-INPUT_MOST.false c.if-body-lt-HEADER_ID_SIZE.false (sym c.in-None.is ∙ c.read_u32.ensures))).1;
 }

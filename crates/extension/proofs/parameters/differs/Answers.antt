@@ -7,18 +7,18 @@ use Rattle.extension.specs.Parameters.{agrees}
 use borrow.Author.Rules.{rules}
 use Rattle.extension.proofs.parameters.differs.Goals as goal
 
-pub returns-in-Absent : goal.returns-in-Absent
+pub returns-in-None : goal.returns-in-None
 unfolding agrees
-returns-in-Absent c = rw c.in-Absent.is
+returns-in-None c = rw c.in-None.is
 
-pub returns-in-Absent-found : goal.returns-in-Absent-found
+pub returns-in-None-found : goal.returns-in-None-found
 unfolding agrees
-returns-in-Absent-found c = rw (c.in-Number.is, c.in-Absent-found.is)
+returns-in-None-found c = rw (c.in-Some.is, c.in-None-found.is)
 
-pub returns-in-Number-found : goal.returns-in-Number-found
+pub returns-in-Some-found : goal.returns-in-Some-found
 unfolding agrees
-returns-in-Number-found c = let x = c.in-Number.x in
-    let y = c.in-Number-found.y in
+returns-in-Some-found c = let x = c.in-Some.x in
+    let y = c.in-Some-found.y in
     let f : SFits w32 x = search rules in
     let g : SFits w32 y = search rules in
-    ap not (same_number w32 x y f g) ∙ sym (rw (c.in-Number.is, c.in-Number-found.is))
+    ap not (same_number w32 x y f g) ∙ sym (rw (c.in-Some.is, c.in-Some-found.is))

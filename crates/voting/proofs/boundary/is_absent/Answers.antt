@@ -1,10 +1,10 @@
 use Rattle.voting.specs.Boundary.{is_absent}
 use Rattle.voting.proofs.boundary.is_absent.Goals as goal
 
-pub returns-in-Absent : goal.returns-in-Absent
+pub returns-in-None : goal.returns-in-None
 unfolding is_absent
-returns-in-Absent c = rw c.in-Absent.is
+returns-in-None c = rw c.in-None.is
 
-pub returns-in-Number : goal.returns-in-Number
+pub returns-in-Some : goal.returns-in-Some
 unfolding is_absent
-returns-in-Number c = rw c.in-Number.is
+returns-in-Some c = rw c.in-Some.is

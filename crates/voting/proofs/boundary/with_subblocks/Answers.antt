@@ -1,6 +1,6 @@
 use Rattle.std.proofs.Common.{pos, ap, ◌∙◌}
 use Rattle.voting.specs.Boundary.{is_number, is_absent}
-use Rattle.voting.specs.declared.table.Value.{Value}
+use Rattle.voting.specs.Value.{Value}
 use Rattle.voting.proofs.Laws.Boundary.{subblocks-new, subblocks-same}
 use Rattle.voting.proofs.boundary.with_subblocks.Goals as goal
 

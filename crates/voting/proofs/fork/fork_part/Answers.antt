@@ -13,13 +13,13 @@ returns-then-settings_large c = c.fork_refused-then-settings_large.ensures ∙ p
 pub phase_at-requires : goal.phase_at-requires
 phase_at-requires c = sym c.settings_large.ensures ∙ c.if-settings_large.false
 
-pub returns-in-Absent : goal.returns-in-Absent
+pub returns-in-None : goal.returns-in-None
 unfolding by_start
-returns-in-Absent c = part_by _ _ _ _ _ c.if-config-eq0.false _ c.settings_large.ensures c.if-settings_large.false _ c.in-Absent.is _ c.opening.ensures
+returns-in-None c = part_by _ _ _ _ _ c.if-config-eq0.false _ c.settings_large.ensures c.if-settings_large.false _ c.in-None.is _ c.opening.ensures
 
-pub returns-in-Number : goal.returns-in-Number
+pub returns-in-Some : goal.returns-in-Some
 unfolding by_start
-returns-in-Number c = let s = c.in-Number.s in
+returns-in-Some c = let s = c.in-Some.s in
     let fs : SFits w32 s = search rules in
-    part_by _ _ _ _ _ c.if-config-eq0.false _ c.settings_large.ensures c.if-settings_large.false _ c.in-Number.is _
+    part_by _ _ _ _ _ c.if-config-eq0.false _ c.settings_large.ensures c.if-settings_large.false _ c.in-Some.is _
     (c.running.ensures ∙ rw (c.phase_at.ensures, to_z-of_z w32 s fs))

@@ -2,12 +2,12 @@ use Rattle.std.proofs.Common.{w32, SFits, rules}
 use Rattle.voting.proofs.Laws.Fork.{plain, open_none, open-orphan, open-below}
 use Rattle.voting.proofs.fork.round_open.Goals as goal
 
-pub returns-in-Absent : goal.returns-in-Absent
-returns-in-Absent c = open_none _ _ _ _ c.in-Absent.is
+pub returns-in-None : goal.returns-in-None
+returns-in-None c = open_none _ _ _ _ c.in-None.is
 
-pub returns-in-Absent-votes : goal.returns-in-Absent-votes
-returns-in-Absent-votes c = open-orphan _ _ _ _ c.in-Number.s c.in-Number.is c.in-Absent-votes.is
+pub returns-in-None-votes : goal.returns-in-None-votes
+returns-in-None-votes c = open-orphan _ _ _ _ c.in-Some.s c.in-Some.is c.in-None-votes.is
 
-pub returns-in-Number-votes : goal.returns-in-Number-votes
-returns-in-Number-votes c = let fs : SFits w32 c.in-Number.s = search rules in
-    open-below _ _ _ _ c.in-Number.s c.in-Number.is c.in-Number-votes.field-0 c.in-Number-votes.is _ (plain _ _ _ _ fs c.epochs_after-from.ensures)
+pub returns-in-Some-votes : goal.returns-in-Some-votes
+returns-in-Some-votes c = let fs : SFits w32 c.in-Some.s = search rules in
+    open-below _ _ _ _ c.in-Some.s c.in-Some.is c.in-Some-votes.field-0 c.in-Some-votes.is _ (plain _ _ _ _ fs c.epochs_after-from.ensures)

@@ -1,7 +1,7 @@
 use Rattle.std.proofs.Common.{ℤ, ap, w32}
 use mir.ValLaws.{to_z-of_z}
-use Rattle.voting.specs.declared.table.Value.TheVariants.{Number}
+use Rattle.std.specs.Prelude.{Some}
 use Rattle.voting.proofs.fork.stored.Goals as goal
 
 pub returns-then-voting : goal.returns-then-voting
-returns-then-voting c = rw c.if-voting.true (ap (λ (y : ℤ). Number y) (to_z-of_z w32 c.args.total c.ranges.total))
+returns-then-voting c = rw c.if-voting.true (ap (λ (y : ℤ). Some y) (to_z-of_z w32 c.args.total c.ranges.total))

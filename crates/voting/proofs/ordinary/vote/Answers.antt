@@ -15,13 +15,13 @@ returns-then-not-is_known c = vote-unknown _ _ _ _ _ c.counted.ensures (ap not c
 pub moved-x-requires : goal.moved-x-requires
 moved-x-requires c = ap known (sym c.parameter-m.ensures) ∙ sym c.is_known.ensures ∙ not-false _ (ap not c.if-not-is_known.false)
 
-pub returns-in-Absent : goal.returns-in-Absent
-returns-in-Absent c = vote-absent _ _ _ _ _ c.counted.ensures (ap not c.if-not-counted.false) (search rules)
+pub returns-in-None : goal.returns-in-None
+returns-in-None c = vote-absent _ _ _ _ _ c.counted.ensures (ap not c.if-not-counted.false) (search rules)
     _ c.parameter-m.ensures _ c.is_known.ensures (ap not c.if-not-is_known.false)
-    _ c.get-v.ensures c.in-Absent.is
+    _ c.get-v.ensures c.in-None.is
 
-pub returns-in-Number : goal.returns-in-Number
-returns-in-Number c = vote-writes _ _ _ _ _ c.counted.ensures (ap not c.if-not-counted.false) (search rules)
+pub returns-in-Some : goal.returns-in-Some
+returns-in-Some c = vote-writes _ _ _ _ _ c.counted.ensures (ap not c.if-not-counted.false) (search rules)
     _ c.parameter-m.ensures _ c.is_known.ensures (ap not c.if-not-is_known.false)
-    _ c.get-v.ensures c.in-Number.z c.in-Number.is (search rules)
+    _ c.get-v.ensures c.in-Some.z c.in-Some.is (search rules)
     _ (search rules) c.moved-x.ensures _ c.with-t.ensures

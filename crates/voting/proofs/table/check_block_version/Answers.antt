@@ -3,14 +3,14 @@ use Rattle.voting.proofs.Laws.Boundary.{version-none, version-same, version-othe
 use Rattle.voting.proofs.table.check_block_version.Goals as goal
 
 pub returns-then-z-version : goal.returns-then-z-version
-returns-then-z-version c = let f : SFits w32 c.in-Number.z = search rules in
+returns-then-z-version c = let f : SFits w32 c.in-Some.z = search rules in
     let l : c.args.version < 256 = search rules in
-    version-same c.args.table c.args.version c.in-Number.z c.in-Number.is f l c.if-z-version.true
+    version-same c.args.table c.args.version c.in-Some.z c.in-Some.is f l c.if-z-version.true
 
-pub returns-in-Absent : goal.returns-in-Absent
-returns-in-Absent c = version-none _ _ c.in-Absent.is
+pub returns-in-None : goal.returns-in-None
+returns-in-None c = version-none _ _ c.in-None.is
 
 pub returns-else-z-version : goal.returns-else-z-version
-returns-else-z-version c = let f : SFits w32 c.in-Number.z = search rules in
+returns-else-z-version c = let f : SFits w32 c.in-Some.z = search rules in
     let l : c.args.version < 256 = search rules in
-    version-other c.args.table c.args.version c.in-Number.z c.in-Number.is f l c.if-z-version.false
+    version-other c.args.table c.args.version c.in-Some.z c.in-Some.is f l c.if-z-version.false

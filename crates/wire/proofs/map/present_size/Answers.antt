@@ -3,8 +3,8 @@ use lib.ListN.{length}
 use Rattle.wire.proofs.MapLaws.{present-none, present-five}
 use Rattle.wire.proofs.map.present_size.Goals as goal
 
-pub returns-in-Absent : goal.returns-in-Absent
-returns-in-Absent c = sym (ap length (present-none _ _ c.in-Absent.is))
+pub returns-in-None : goal.returns-in-None
+returns-in-None c = sym (ap length (present-none _ _ c.in-None.is))
 
-pub returns-in-Number : goal.returns-in-Number
-returns-in-Number c = present-five _ _ _ c.in-Number.is
+pub returns-in-Some : goal.returns-in-Some
+returns-in-Some c = present-five _ _ _ c.in-Some.is

@@ -6,9 +6,9 @@ use borrow.Author.Rules.{rules}
 use Rattle.wire.proofs.MapLaws.{present-none, present-stored}
 use Rattle.wire.proofs.map.put_present.Goals as goal
 
-pub returns-in-Absent : goal.returns-in-Absent
-returns-in-Absent c = sym (ap (sets c.args.out.now c.args.at) (present-none _ _ c.in-Absent.is))
+pub returns-in-None : goal.returns-in-None
+returns-in-None c = sym (ap (sets c.args.out.now c.args.at) (present-none _ _ c.in-None.is))
 
-pub returns-in-Number : goal.returns-in-Number
-returns-in-Number c = let f : SFits w32 c.in-Number.z = search rules in
-    c.put_bytes.ensures ∙ present-stored _ _ _ f c.in-Number.is c.i32_to_be_bytes-b.ensures.value _ _
+pub returns-in-Some : goal.returns-in-Some
+returns-in-Some c = let f : SFits w32 c.in-Some.z = search rules in
+    c.put_bytes.ensures ∙ present-stored _ _ _ f c.in-Some.is c.i32_to_be_bytes-b.ensures.value _ _

@@ -1,6 +1,6 @@
+use Rattle.extension.proofs.Laws.PackTrip.{all_held}
 use Rattle.codec.proofs.Laws.Output.{short, done}
 use Rattle.extension.specs.Parameters.{entry_of}
-use Rattle.extension.proofs.Laws.PackTrip.{all_held}
 use Rattle.wire.proofs.MapLaws.{map_back}
 use Rattle.wire.proofs.map.write_map.Goals as goal
 

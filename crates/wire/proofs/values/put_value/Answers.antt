@@ -8,18 +8,18 @@ use Rattle.wire.proofs.Laws.{renamed, absent-bytes, number-bytes}
 use borrow.Author.Rules.{rules}
 use Rattle.wire.proofs.values.put_value.Goals as goal
 
-pub returns-in-Absent : goal.returns-in-Absent
-returns-in-Absent c = let e = c.in-Absent.is in
+pub returns-in-None : goal.returns-in-None
+returns-in-None c = let e = c.in-None.is in
     record {
       put = renamed (absent-bytes _ e) c.put_marked.ensures;
       back = absent-back _ e;
     }
 
-pub returns-in-Number : goal.returns-in-Number
-returns-in-Number c = let z = c.in-Number.z in
-    let e = c.in-Number.is in
+pub returns-in-Some : goal.returns-in-Some
+returns-in-Some c = let z = c.in-Some.z in
+    let e = c.in-Some.is in
     let f : SFits w32 z = search rules in
     record {
-      put = renamed (number-bytes _ z _ e (c.bits_i32.ensures ∙ ap (bits_of 32) (to_z-of_z w32 z f))) c.put_marked-in-Number.ensures;
+      put = renamed (number-bytes _ z _ e (c.bits_i32.ensures ∙ ap (bits_of 32) (to_z-of_z w32 z f))) c.put_marked-in-Some.ensures;
       back = present-back _ z e f;
     }

@@ -11,7 +11,7 @@ loop-i-init c = (refl, omega arith, omega arith, refl)
 
 pub loop-i-preserved : goal.loop-i-preserved
 loop-i-preserved c = let l = c.loop-i in
-    (search rules, search rules, omega arith, slots-more l.slots l.i l.k _ _ c.loop-i-test.true c.value_at-value.ensures ∙ l.invariant.3)
+    (search rules, search rules, omega arith, slots-more l.slots l.i l.k _ _ c.loop-i-test.true c.value_at.ensures ∙ l.invariant.3)
 
 pub returns : goal.returns
 returns c = let l = c.loop-i in

@@ -1,8 +1,8 @@
+use Rattle.extension.proofs.Laws.PackTrip.{all_held}
 use Rattle.codec.proofs.Laws.Output.{short, done}
 use Rattle.extension.specs.Parameters.{entry_of}
 use Rattle.writers.specs.Pack.{pack_parameters}
 use Rattle.writers.proofs.Laws.PackTrip.{parameters-back}
-use Rattle.extension.proofs.Laws.PackTrip.{all_held}
 use Rattle.writers.proofs.pack.pack_parameters_to_kv.Goals as goal
 
 pub returns-then-out-n : goal.returns-then-out-n
