@@ -1,11 +1,11 @@
 -- How fast the ordinary parameters move on mainnet, in numbers. docs/RULES.md, "Steps over the years".
 -- Assumes nothing.
-use Rattle.std.specs.Prelude.{ℕ, ◌≤◌, ◌≡◌, List, [], ℤ, Some}
+use Rattle.std.specs.Prelude.{Result, Ok, ℕ, ◌≤◌, ◌≡◌, List, [], ℤ, Some}
 use Rattle.voting.specs.Common.{Each, Bytes}
 use Rattle.voting.specs.Table.{lookup}
 use Rattle.voting.specs.Steps.{Step}
-use Rattle.archive.specs.declared.replay.Verdict.TheVariants.{Accepted}
-use Rattle.archive.specs.declared.replay.Opened.{Opened}
+use Rattle.codec.specs.declared.refusal.Refusal.{Refusal}
+use Rattle.archive.specs.declared.replay.Replay.{Replay}
 use Rattle.archive.specs.Replay.{replay_of}
 use Rattle.archive.specs.Rounds.{state_after}
 use Rattle.archive.specs.Steps.{epoch_before}
@@ -14,8 +14,8 @@ use Rattle.archive.specs.Steps.{epoch_before}
 -- accepted: each parameter p from 1 to 9 that the old table has, as z, moves by one step of z or stays. It moves up exactly when z is below its
 -- greatest value and more than 512 votes for p were counted in the epoch before, down exactly when z is above its least value and more than
 -- 512 for -p were; both are never so.
-abbrev pub MainnetSteps : Opened → Type 0
+abbrev pub MainnetSteps : Result Replay Refusal → Type 0
 MainnetSteps r =
-    (calls : List (List ℕ)) → Each Bytes calls → (xs : List ℕ) → (replay_of (state_after r.state calls) xs).verdict ≡ Accepted
-    → (p : ℕ) → 1 ≤ p → p ≤ 9 → (z : ℤ) → lookup (state_after r.state calls).table p ≡ Some z
-    → Step 512 (epoch_before [] r.state calls) p z (lookup (replay_of (state_after r.state calls) xs).state.table p)
+    (s : Replay) → r ≡ Ok s → (calls : List (List ℕ)) → Each Bytes calls → (xs : List ℕ) (next : Replay) → replay_of (state_after s calls) xs ≡ Ok next
+    → (p : ℕ) → 1 ≤ p → p ≤ 9 → (z : ℤ) → lookup (state_after s calls).table p ≡ Some z
+    → Step 512 (epoch_before [] s calls) p z (lookup next.table p)

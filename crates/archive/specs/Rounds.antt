@@ -1,8 +1,7 @@
 -- The promise over every list of records, of the replay itself: what is handed to it are byte strings, one after another, refused ones
 -- included. docs/RULES.md, "Replay". What the promise says, in mainnet's numbers, is crates/rounds/specs/Mainnet.antt.
 -- Assumes nothing.
-use Rattle.std.specs.Prelude.{ℕ, ◌≤◌, ◌≡◌, List, [], ◌∷◌, pos, None, Some}
-use Rattle.codec.specs.Refusal.{entry_differs}
+use Rattle.std.specs.Prelude.{Result, Ok, Err, ℕ, ◌≤◌, ◌≡◌, List, [], ◌∷◌, pos, None, Some}
 use Rattle.voting.specs.declared.settings.VotingConfig.{VotingConfig}
 use Rattle.voting.specs.declared.table.Table.{Table}
 use Rattle.voting.specs.declared.tally.Tally.{Tally}
@@ -13,15 +12,13 @@ use Rattle.voting.specs.Tally.{entries, first_count}
 use Rattle.rounds.specs.Replay.{Answer, refused, accepted, run}
 use Rattle.rounds.specs.Replay as Interface
 use Rattle.rounds.specs.Mainnet.{Promise}
-use Rattle.archive.specs.declared.record.RecordAt.{RecordAt}
-use Rattle.archive.specs.declared.record.RecordAt.TheVariants.{Whole, Short, Malformed}
+use Rattle.codec.specs.declared.refusal.Refusal.{Refusal}
+use Rattle.archive.specs.declared.record.RecordPlace.{RecordPlace}
+use Rattle.archive.specs.declared.record.Unread.{Unread}
 use Rattle.archive.specs.declared.replay.Replay.{Replay}
-use Rattle.archive.specs.declared.replay.Verdict.{Verdict}
-use Rattle.archive.specs.declared.replay.Verdict.TheVariants.{Accepted, Refused, Mismatch}
-use Rattle.archive.specs.declared.replay.Replayed.{Replayed}
-use Rattle.archive.specs.declared.replay.Opened.{Opened}
+use Rattle.archive.specs.declared.replay.Rejection.{Rejection}
 use Rattle.archive.specs.Record.{record_at}
-use Rattle.archive.specs.Replay.{vote_bytes, votes_size, replay_of}
+use Rattle.archive.specs.Replay.{vote_bytes, votes_size, replay_of, state_by, rejection_number}
 
 -- a state without its settings, and with them
 pub record Core : Type 0 where
@@ -36,24 +33,18 @@ abbrev pub full : VotingConfig → Core → Replay
 full g c = record { settings = g; table = c.table; next = c.next; tally = c.tally }
 
 -- the replay's answer, as the rounds see it
-unfoldable pub answer_by : Verdict → Replay → Answer Core
-answer_by Accepted s = accepted (core s)
-answer_by (Refused n) s = refused n
-answer_by (Mismatch id) s = refused entry_differs
-
-unfoldable pub answer : Replayed → Answer Core
-answer r = answer_by r.verdict r.state
+unfoldable pub answer : Result Replay Rejection → Answer Core
+answer (Ok s) = accepted (core s)
+answer (Err e) = refused (rejection_number e)
 
 -- the height and the vote bytes of a record
-unfoldable pub record_height : RecordAt → ℕ
-record_height (Whole p) = p.height
-record_height (Short k) = 0
-record_height Malformed = 0
+unfoldable pub record_height : Result RecordPlace Unread → ℕ
+record_height (Ok p) = p.height
+record_height (Err e) = 0
 
-unfoldable pub record_votes : List ℕ → RecordAt → List ℕ
-record_votes xs (Whole p) = vote_bytes xs p
-record_votes xs (Short k) = []
-record_votes xs Malformed = []
+unfoldable pub record_votes : List ℕ → Result RecordPlace Unread → List ℕ
+record_votes xs (Ok p) = vote_bytes xs p
+record_votes xs (Err e) = []
 
 -- the replay by these settings
 abbrev pub interface : VotingConfig → Interface.Replay
@@ -72,7 +63,7 @@ interface g =
 -- the state after a list of byte strings: each call gets the state that the last one handed back
 unfoldable pub state_after : Replay → List (List ℕ) → Replay
 state_after s [] = s
-state_after s (xs ∷ rest) = state_after (replay_of s xs).state rest
+state_after s (xs ∷ rest) = state_after (state_by s xs) rest
 
 -- the replay's own states go the way that the promise speaks of, its settings stay, and the promise holds
 pub record Kept (s : Replay) (version : ℕ) (calls : List (List ℕ)) : Type 0 where
@@ -82,7 +73,7 @@ pub record Kept (s : Replay) (version : ℕ) (calls : List (List ℕ)) : Type 0 
 
 -- what an opening promises, if it is not refused and its table has no 121 and 122 and a version from 1 to 255: whatever is handed to the
 -- replay, one byte string after another
-abbrev pub RoundsKept : Table → Opened → Type 0
+abbrev pub RoundsKept : Table → Result Replay Refusal → Type 0
 RoundsKept t r =
-    (version : ℕ) → 1 ≤ version → version ≤ 255 → t.fork ≡ fork_entries None None (Some (pos version)) → r.refusal ≡ 0
-    → (calls : List (List ℕ)) → Kept r.state version calls
+    (version : ℕ) → 1 ≤ version → version ≤ 255 → t.fork ≡ fork_entries None None (Some (pos version)) → (s : Replay) → r ≡ Ok s
+    → (calls : List (List ℕ)) → Kept s version calls

@@ -1,14 +1,13 @@
 -- How the ordinary parameters move, over every list of byte strings that is handed to the replay. docs/RULES.md, "Steps over the years".
 -- Assumes nothing.
-use Rattle.std.specs.Prelude.{ℕ, ◌/◌, ◌≡◌, List, []}
+use Rattle.std.specs.Prelude.{Result, Ok, ℕ, ◌/◌, ◌≡◌, List, []}
 use Rattle.voting.specs.Common.{Each, Bytes}
 use Rattle.voting.specs.Settings.{voting_length}
 use Rattle.voting.specs.Steps.{Stepped}
 use Rattle.rounds.specs.Epochs.{last_of}
 use Rattle.rounds.specs.Replay.{epochs}
 use Rattle.archive.specs.declared.replay.Replay.{Replay}
-use Rattle.archive.specs.declared.replay.Verdict.TheVariants.{Accepted}
-use Rattle.archive.specs.declared.replay.Opened.{Opened}
+use Rattle.codec.specs.declared.refusal.Refusal.{Refusal}
 use Rattle.archive.specs.Replay.{replay_of}
 use Rattle.archive.specs.Rounds.{core, interface, state_after}
 
@@ -19,9 +18,9 @@ epoch_before before s calls = last_of before (epochs (interface s.settings) (cor
 -- after every list of byte strings, refused ones included: the boundary of every further one that is accepted
 abbrev pub StepsBy : ℕ → List ℕ → Replay → Type 0
 StepsBy half before s =
-    (calls : List (List ℕ)) → Each Bytes calls → (xs : List ℕ) → (replay_of (state_after s calls) xs).verdict ≡ Accepted
-    → Stepped half (epoch_before before s calls) (state_after s calls).table (replay_of (state_after s calls) xs).state.table
+    (calls : List (List ℕ)) → Each Bytes calls → (xs : List ℕ) (next : Replay) → replay_of (state_after s calls) xs ≡ Ok next
+    → Stepped half (epoch_before before s calls) (state_after s calls).table next.table
 
 -- what an opening promises, by its settings: more than half the length. Before its first record no votes were counted
-abbrev pub StepsKept : Opened → Type 0
-StepsKept r = StepsBy (voting_length r.state.settings / 2) [] r.state
+abbrev pub StepsKept : Result Replay Refusal → Type 0
+StepsKept r = (s : Replay) → r ≡ Ok s → StepsBy (voting_length s.settings / 2) [] s

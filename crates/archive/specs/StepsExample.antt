@@ -1,7 +1,7 @@
 -- Five records, by settings in which an epoch has three headers, so that two votes are more than half; and a year of steps one way.
 -- docs/RULES.md, "Steps over the years".
 -- Assumes nothing.
-use Rattle.std.specs.Prelude.{ℕ, zero, suc, ◌≡◌, List, [], ◌∷◌, ◌++◌, ℤ, pos, replicate, Some}
+use Rattle.std.specs.Prelude.{Err, ℕ, zero, suc, ◌≡◌, List, [], ◌∷◌, ◌++◌, ℤ, pos, replicate, Some}
 use Rattle.codec.specs.BigEndian.{big_endian_bytes}
 use Rattle.voting.specs.Value.{Value}
 use Rattle.voting.specs.Settings.{settings}
@@ -10,7 +10,7 @@ use Rattle.voting.specs.Tally.{no_tally, counted_for}
 use Rattle.voting.specs.Ordinary.{raised, lowered}
 use Rattle.extension.specs.Order.{only_first}
 use Rattle.archive.specs.declared.replay.Replay.{Replay}
-use Rattle.archive.specs.declared.replay.Verdict.TheVariants.{Mismatch}
+use Rattle.archive.specs.declared.replay.Rejection.TheVariants.{Mismatch}
 use Rattle.archive.specs.Record.{record_bytes}
 use Rattle.archive.specs.Replay.{replay_of}
 use Rattle.archive.specs.Rounds.{state_after}
@@ -53,7 +53,7 @@ abbrev pub counted_after : ℕ → List (List ℕ) → ℕ
 counted_after b calls = counted_for b (epoch_before [] start calls)
 
 pub record StepsTaken : Type 0 where
-  pub turned_down : (replay_of (state_after start (first ∷ [])) wrong).verdict ≡ Mismatch 1
+  pub turned_down : replay_of (state_after start (first ∷ [])) wrong ≡ Err (Mismatch 1)
   pub two-for-up : counted_after 1 (first ∷ wrong ∷ []) ≡ 2
   pub none-for-down : counted_after 255 (first ∷ wrong ∷ []) ≡ 0
   pub up-beyond-greatest : value_after (first ∷ wrong ∷ second ∷ []) ≡ Some (pos 2524999)

@@ -4,26 +4,29 @@ ghost use Rattle.counting.specs.Count.{count};
 ghost use Rattle.voting.specs.Header.{soft_fork_vote};
 ghost use Rattle.archive.specs.ForkVotes.{check_fork_votes};
 
+use codec::refusal::Refusal;
 use voting::settings::VotingConfig;
 use voting::table::Table;
 use voting::{fork, header};
 
-// The fork check of every header in order, the first at this height: 12, 18 or 19 of the first that is not allowed, or 0.
-pub(crate) fn check_fork_votes(config: VotingConfig, table: Table, height: u32, votes: &[u8]) -> u8
+// The fork check of every header in order, the first at this height: 12, 18 or 19 of the first that is not allowed.
+pub(crate) fn check_fork_votes(
+    config: VotingConfig,
+    table: Table,
+    height: u32,
+    votes: &[u8],
+) -> Result<(), Refusal>
     requires { height + length votes.now / 3 ≤ 4294967295 }
     ensures { result ≡ check_fork_votes config table height votes.now }
 {
     let n = votes.len() / 3;
     if fork::votes_open(config, height + n as u32, table) {
-        return 0;
+        return Ok(());
     }
-    if config.settings_large() {
+    if config.settings_large() || any_fork_vote(votes) {
         return first_barred(config, table, height, votes);
     }
-    if any_fork_vote(votes) {
-        return first_barred(config, table, height, votes);
-    }
-    0
+    Ok(())
 }
 
 // Whether a byte is the vote for the fork.
@@ -33,27 +36,19 @@ fn any_fork_vote(votes: &[u8]) -> bool
     0 < counting::times_in(votes, header::SOFT_FORK_VOTE)
 }
 
-fn first_barred(config: VotingConfig, table: Table, height: u32, votes: &[u8]) -> u8
+fn first_barred(
+    config: VotingConfig,
+    table: Table,
+    height: u32,
+    votes: &[u8],
+) -> Result<(), Refusal>
     requires { height + length votes.now / 3 ≤ 4294967295 }
     ensures { result ≡ check_fork_votes config table height votes.now }
 {
-    let n = votes.len() / 3;
     let mut h = height;
-    let mut i: usize = 0;
-    while i < n {
-        let at = 3 * i;
-        let vote = fork::check_fork_vote(
-            config,
-            h,
-            [votes[at], votes[at + 1], votes[at + 2]],
-            table,
-        );
-        let e = vote.number();
-        if e != 0 {
-            return e;
-        }
+    for v in votes.chunks_exact(3) {
+        fork::check_fork_vote(config, h, [v[0], v[1], v[2]], table)?;
         h += 1;
-        i += 1;
     }
-    0
+    Ok(())
 }

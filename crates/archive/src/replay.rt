@@ -3,19 +3,16 @@ ghost use Rattle.std.specs.Prelude.{◌≡◌, ◌+◌, ◌*◌, ◌/◌, ◌≤
 ghost use Rattle.voting.specs.Settings.{voting_length, mainnet};
 ghost use Rattle.voting.specs.Tally.{no_tally};
 ghost use Rattle.rounds.specs.Epochs.{boundary_votes};
-ghost use Rattle.walk.specs.Walk.{match_found};
+ghost use Rattle.archive.specs.declared.replay.Rejection.TheVariants.{Refused, Mismatch};
 ghost use Rattle.archive.specs.ForkVotes.{check_fork_votes};
-ghost use Rattle.archive.specs.Replay.{refuses, gate, onward, after_match, height_refusal, early_refusal, on_parts, replay_of, Exhausted, LeastOfRecord, verdict_number, verdict_id, may_open, open_of};
+ghost use Rattle.archive.specs.Replay.{check_height, check_early, on_parts, onward, after_match, replay_of, Exhausted, LeastOfRecord, rejection_number, rejection_id, may_open, open_of};
 ghost use Rattle.archive.specs.Rounds.{RoundsKept};
 ghost use Rattle.archive.specs.Steps.{StepsKept};
 ghost use Rattle.archive.specs.Mainnet.{MainnetSteps};
 
-use crate::record::RecordAt;
 use crate::{fork_votes, record};
-use codec::refusal;
-use extension::boundary;
-use extension::boundary::Computed;
-use extension::parameters::Matched;
+use codec::refusal::Refusal;
+use extension::{boundary, parameters};
 use voting::settings::{MAINNET_VOTING_LENGTH, VotingConfig};
 use voting::table::Table;
 use voting::tally::Tally;
@@ -33,92 +30,79 @@ pub struct Replay {
     pub tally: Tally,
 }
 
-// Accepted, refused by a number, or refused by 15 with the least id that differs.
-#[derive(Clone, Copy)]
-pub enum Verdict {
-    Accepted,
-    Refused(u8),
+// Why a record is turned down: by a refusal, or by 15 with the least id that differs.
+#[derive(Clone, Copy, Debug, PartialEq, Eq)]
+pub enum Rejection {
+    Refused(Refusal),
     Mismatch(u8),
 }
 
-// The next state; a refused record leaves the state as it was.
-#[derive(Clone, Copy)]
-pub struct Replayed {
-    pub verdict: Verdict,
-    pub state: Replay,
+impl From<Refusal> for Rejection {
+    ghost from_gives = { λ refusal rejection. rejection ≡ Refused refusal };
+
+    fn from(refusal: Refusal) -> Rejection {
+        Rejection::Refused(refusal)
+    }
 }
 
-// A refusal's number, or 0; refused, the state expects no height.
-#[derive(Clone, Copy)]
-pub struct Opened {
-    pub refusal: u8,
-    pub state: Replay,
+impl From<parameters::Mismatch> for Rejection {
+    ghost from_gives = { λ mismatch rejection. rejection ≡ Mismatch mismatch.id };
+
+    fn from(mismatch: parameters::Mismatch) -> Rejection {
+        Rejection::Mismatch(mismatch.id)
+    }
 }
 
-// Opens a replay on mainnet at a height, with a table and an empty tally.
-pub fn open(height: u32, table: Table) -> Opened
+// Opens a replay on mainnet at a height, with a table and an empty tally; or 26.
+pub fn open(height: u32, table: Table) -> Result<Replay, Refusal>
     ensures value { result ≡ open_of height table }
     ensures rounds { RoundsKept table result }
     ensures steps { StepsKept result }
     ensures mainnet_steps { MainnetSteps result }
 {
     if may_open(height) {
-        return Opened {
-            refusal: 0,
-            state: start(height, table),
-        };
+        return Ok(start(height, table));
     }
-    Opened {
-        refusal: refusal::HEIGHT_UNEXPECTED,
-        state: start(HEIGHT_LIMIT, table),
-    }
+    Err(Refusal::HeightUnexpected)
 }
 
 impl Replay {
-    // Replays a record.
-    pub fn replay(self, rec: &[u8]) -> Replayed
+    // Replays a record: the next state. A record that is turned down leaves the state as it was.
+    pub fn replay(self, rec: &[u8]) -> Result<Replay, Rejection>
         ensures value { result ≡ replay_of self rec.now }
         ensures exhausted { Exhausted self rec.now result }
         ensures least { LeastOfRecord self rec.now result }
     {
-        let g = self.settings;
-        match record::read_record(rec, 3 * (g.voting_length as usize)) {
-            RecordAt::Whole(p) => {
-                if p.end != rec.len() {
-                    return refused(self, refusal::RECORD_MALFORMED);
-                }
-                let body = p.body;
-                let body_end = p.body_end;
-                let votes = p.votes;
-                let end = p.end;
-                on_parts(self, p.height, &rec[body..body_end], &rec[votes..end])
-            }
-            RecordAt::Short(_) => refused(self, refusal::RECORD_MALFORMED),
-            RecordAt::Malformed => refused(self, refusal::RECORD_MALFORMED),
+        match record::read_record(rec, 3 * (self.settings.voting_length as usize)) {
+            Ok(p) if p.end == rec.len() => on_parts(
+                self,
+                p.height,
+                &rec[p.body..p.body_end],
+                &rec[p.votes..p.end],
+            ),
+            _ => Err(Rejection::Refused(Refusal::RecordMalformed)),
         }
     }
 }
 
-impl Verdict {
-    // The refusal's number, 0 for none.
+impl Rejection {
+    // The refusal's number.
     pub fn number(self) -> u8
-        ensures { result ≡ verdict_number self }
+        ensures { result ≡ rejection_number self }
     {
         match self {
-            Verdict::Accepted => 0,
-            Verdict::Refused(n) => n,
-            Verdict::Mismatch(_) => refusal::ENTRY_DIFFERS,
+            Rejection::Refused(refusal) => refusal.number(),
+            Rejection::Mismatch(_) => Refusal::EntryDiffers.number(),
         }
     }
 
     // The id that 15 carries, else 0.
     pub fn id(self) -> u8
-        ensures { result ≡ verdict_id self }
+        ensures { result ≡ rejection_id self }
     {
         match self {
-            Verdict::Accepted => 0,
-            Verdict::Refused(_) => 0,
-            Verdict::Mismatch(id) => id,
+            Rejection::Refused(_) => 0,
+            Rejection::Mismatch(id) => id,
         }
     }
 }
@@ -142,78 +126,62 @@ fn start(next: u32, table: Table) -> Replay
     }
 }
 
-fn refused(s: Replay, n: u8) -> Replayed
-    ensures { result ≡ refuses s n }
-{
-    Replayed {
-        verdict: Verdict::Refused(n),
-        state: s,
-    }
-}
-
 // The tests in order, on a record's parts.
-fn on_parts(s: Replay, height: u32, body: &[u8], votes: &[u8]) -> Replayed
+fn on_parts(s: Replay, height: u32, body: &[u8], votes: &[u8]) -> Result<Replay, Rejection>
     requires { length votes.now ≡ 3 * voting_length s.settings }
     ensures { result ≡ on_parts s height body.now votes.now }
 {
-    let e = early_refusal(s, height, votes);
-    if e != 0 {
-        return refused(s, e);
-    }
-    let w = walk::walk_body(body);
-    let x = w.parsed;
-    let n = x.refusal;
-    if n != 0 {
-        return refused(s, n);
-    }
-    let g = s.settings;
-    let t = s.table;
-    let y = s.tally;
-    let vote = boundary_votes(votes);
-    let start = w.start;
-    let end = w.end;
-    let b = boundary::boundary_with_update(g, height, t, y, vote, &body[start..end]);
-    let found = w.found;
-    after_boundary(s, height, votes, found, b)
+    check_early(s, height, votes)?;
+    let w = walk::walk_body(body)?;
+    let b = boundary::boundary_with_update(
+        s.settings,
+        height,
+        s.table,
+        s.tally,
+        boundary_votes(votes),
+        &body[w.start..w.end],
+    )?;
+    after_match(
+        s,
+        height,
+        votes,
+        b.table,
+        walk::match_found(b.table, w.found),
+    )
 }
 
 // The height, all headers, the boundary header's fork check by the old table.
-fn early_refusal(s: Replay, height: u32, votes: &[u8]) -> u8
-    ensures { result ≡ early_refusal s height votes.now }
+fn check_early(s: Replay, height: u32, votes: &[u8]) -> Result<(), Refusal>
+    ensures { result ≡ check_early s height votes.now }
 {
-    let e = height_refusal(s, height);
-    if e != 0 {
-        return e;
-    }
-    let f = headers::check_headers(votes);
-    if f != 0 {
-        return f;
-    }
-    let g = s.settings;
-    let t = s.table;
-    boundary_refusal(g, t, height, votes)
+    check_height(s, height)?;
+    headers::check_headers(votes)?;
+    check_boundary(s.settings, s.table, height, votes)
 }
 
-fn height_refusal(s: Replay, height: u32) -> u8
-    ensures { result ≡ height_refusal s height }
+fn check_height(s: Replay, height: u32) -> Result<(), Refusal>
+    ensures { result ≡ check_height s height }
 {
-    let g = s.settings;
-    let end = (height as u64) + (g.voting_length as u64);
+    let end = (height as u64) + (s.settings.voting_length as u64);
     if (height == s.next) & (end <= HEIGHT_LIMIT as u64) {
-        return 0;
+        return Ok(());
     }
-    refusal::HEIGHT_UNEXPECTED
+    Err(Refusal::HeightUnexpected)
 }
 
 // The fork check of the first header.
-fn boundary_refusal(config: VotingConfig, table: Table, height: u32, votes: &[u8]) -> u8
+fn check_boundary(
+    config: VotingConfig,
+    table: Table,
+    height: u32,
+    votes: &[u8],
+) -> Result<(), Refusal>
     ensures { result ≡ check_fork_votes config table height (take 3 votes.now) }
 {
     if votes.len() < 3 {
-        return 0;
+        return Ok(());
     }
-    let vote = fork::check_fork_vote(config, height, [votes[0], votes[1], votes[2]], table);
-    vote.number()
+    fork::check_fork_vote(config, height, [votes[0], votes[1], votes[2]], table)
 }
 
 // Whether the first header votes for the fork.
@@ -227,50 +195,35 @@ fn boundary_votes(votes: &[u8]) -> bool
 }
 
 // The fork checks of the headers after the first.
-fn other_refusal(config: VotingConfig, table: Table, height: u32, votes: &[u8]) -> u8
+fn check_others(
+    config: VotingConfig,
+    table: Table,
+    height: u32,
+    votes: &[u8],
+) -> Result<(), Refusal>
     requires { height + length votes.now / 3 ≤ 4294967295 }
     ensures { result ≡ check_fork_votes config table height (drop 3 votes.now) }
 {
     if votes.len() < 3 {
-        return 0;
+        return Ok(());
     }
     fork_votes::check_fork_votes(config, table, height, &votes[3..])
 }
 
-// After the boundary: the match with what was found in the body.
-fn after_boundary(s: Replay, height: u32, votes: &[u8], found: Table, b: Computed) -> Replayed
-    requires { (height + voting_length s.settings ≤ 2147483648) × (length votes.now ≡ 3 * voting_length s.settings) }
-    ensures { result ≡ gate s b.refusal (after_match s height votes.now b.table (match_found b.table found)) }
-{
-    let e = b.refusal;
-    if e != 0 {
-        return refused(s, e);
-    }
-    let t = b.table;
-    let m = walk::match_found(t, found);
-    after_match(s, height, votes, t, m)
-}
-
 // After the match: the other headers' fork checks by the new table.
-fn after_match(s: Replay, height: u32, votes: &[u8], t: Table, m: Matched) -> Replayed
+fn after_match(
+    s: Replay,
+    height: u32,
+    votes: &[u8],
+    t: Table,
+    m: Result<(), parameters::Mismatch>,
+) -> Result<Replay, Rejection>
     requires { (height + voting_length s.settings ≤ 2147483648) × (length votes.now ≡ 3 * voting_length s.settings) }
     ensures { result ≡ after_match s height votes.now t m }
 {
-    if m.refusal != 0 {
-        return Replayed {
-            verdict: Verdict::Mismatch(m.id),
-            state: s,
-        };
-    }
-    let g = s.settings;
-    let e = other_refusal(g, t, height + 1, votes);
-    if e != 0 {
-        return refused(s, e);
-    }
-    Replayed {
-        verdict: Verdict::Accepted,
-        state: onward(s, height, votes, t),
-    }
+    m?;
+    check_others(s.settings, t, height + 1, votes)?;
+    Ok(onward(s, height, votes, t))
 }
 
 // The state after an accepted epoch.
@@ -278,14 +231,12 @@ fn onward(s: Replay, height: u32, votes: &[u8], t: Table) -> Replay
     requires { height + voting_length s.settings ≤ 2147483648 }
     ensures { result ≡ onward s height votes.now t }
 {
-    let g = s.settings;
-    let next = height + g.voting_length;
-    let y = tally::tally_votes_seeded(height, votes, next, g.voting_length);
-    let tally = y.tally;
+    let length = s.settings.voting_length;
+    let next = height + length;
     Replay {
-        settings: g,
+        settings: s.settings,
         table: t,
         next,
-        tally,
+        tally: tally::tally_votes_seeded(height, votes, next, length).unwrap_or(tally::no_tally()),
     }
 }

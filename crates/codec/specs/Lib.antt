@@ -1,4 +1,5 @@
 pub mod Refusal
+pub mod Check
 pub mod Output
 pub mod Vlq
 pub mod Signed

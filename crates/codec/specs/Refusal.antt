@@ -1,97 +1,44 @@
--- The refusal numbers. docs/RULES.md, "Who can be turned away, and by which number".
+-- The refusals and their numbers. docs/RULES.md, "Who can be turned away, and by which number".
 -- Assumes nothing.
 use Rattle.std.specs.Prelude.{ℕ, List, [], ◌∷◌}
+use Rattle.codec.specs.declared.refusal.Refusal.{Refusal}
+use Rattle.codec.specs.declared.refusal.Refusal.TheVariants.{BodyShort, CountUnreadable, FieldHeaderCut, ValueLong, ValueCut, ParameterSize, UpdateUnreadable, MandatoryDisabled, TooManyVotes, RepeatedVote, ContradictoryVote, ForkVoteBarred, UnknownParameter, AbsentParameter, EntryDiffers, BlockVersionDiffers, VotingLengthZero, SettingLarge, VotesCollectedAbsent, BlockVersionAbsent, OutputShort, InputLong, StatusRuleLow, WrittenValueLong, WindowLengthOutside, RecordMalformed, HeightUnexpected}
 
--- the miner or extension author
-abbrev pub body_short : ℕ
-body_short = 1
-
-abbrev pub count_unreadable : ℕ
-count_unreadable = 2
-
-abbrev pub field_header_cut : ℕ
-field_header_cut = 3
-
-abbrev pub value_long : ℕ
-value_long = 4
-
-abbrev pub value_cut : ℕ
-value_cut = 5
-
-abbrev pub parameter_size : ℕ
-parameter_size = 6
-
-abbrev pub update_unreadable : ℕ
-update_unreadable = 7
-
-abbrev pub mandatory_disabled : ℕ
-mandatory_disabled = 8
-
-abbrev pub too_many_votes : ℕ
-too_many_votes = 9
-
-abbrev pub repeated_vote : ℕ
-repeated_vote = 10
-
-abbrev pub contradictory_vote : ℕ
-contradictory_vote = 11
-
-abbrev pub fork_vote_barred : ℕ
-fork_vote_barred = 12
-
-abbrev pub unknown_parameter : ℕ
-unknown_parameter = 13
-
-abbrev pub absent_parameter : ℕ
-absent_parameter = 14
-
-abbrev pub entry_differs : ℕ
-entry_differs = 15
-
-abbrev pub block_version_differs : ℕ
-block_version_differs = 16
-
--- the supplier of tables and settings
-abbrev pub voting_length_zero : ℕ
-voting_length_zero = 17
-
-abbrev pub setting_large : ℕ
-setting_large = 18
-
-abbrev pub votes_collected_absent : ℕ
-votes_collected_absent = 19
-
-abbrev pub block_version_absent : ℕ
-block_version_absent = 20
-
--- the caller
-abbrev pub output_short : ℕ
-output_short = 21
-
-abbrev pub input_long : ℕ
-input_long = 22
-
-abbrev pub status_rule_low : ℕ
-status_rule_low = 23
-
-abbrev pub written_value_long : ℕ
-written_value_long = 24
-
-abbrev pub window_length_outside : ℕ
-window_length_outside = 33
-
--- the archive
-abbrev pub record_malformed : ℕ
-record_malformed = 25
-
-abbrev pub height_unexpected : ℕ
-height_unexpected = 26
+-- by the miner or extension author, by the supplier of tables and settings, by the caller, by the archive
+abbrev pub number : Refusal → ℕ
+number BodyShort = 1
+number CountUnreadable = 2
+number FieldHeaderCut = 3
+number ValueLong = 4
+number ValueCut = 5
+number ParameterSize = 6
+number UpdateUnreadable = 7
+number MandatoryDisabled = 8
+number TooManyVotes = 9
+number RepeatedVote = 10
+number ContradictoryVote = 11
+number ForkVoteBarred = 12
+number UnknownParameter = 13
+number AbsentParameter = 14
+number EntryDiffers = 15
+number BlockVersionDiffers = 16
+number VotingLengthZero = 17
+number SettingLarge = 18
+number VotesCollectedAbsent = 19
+number BlockVersionAbsent = 20
+number OutputShort = 21
+number InputLong = 22
+number StatusRuleLow = 23
+number WrittenValueLong = 24
+number WindowLengthOutside = 33
+number RecordMalformed = 25
+number HeightUnexpected = 26
 
 -- all of them, in order
-abbrev pub refusals : List ℕ
+abbrev pub refusals : List Refusal
 refusals =
-    body_short ∷ count_unreadable ∷ field_header_cut ∷ value_long ∷ value_cut ∷ parameter_size ∷ update_unreadable ∷ mandatory_disabled ∷
-    too_many_votes ∷ repeated_vote ∷ contradictory_vote ∷ fork_vote_barred ∷ unknown_parameter ∷ absent_parameter ∷ entry_differs ∷ block_version_differs ∷
-    voting_length_zero ∷ setting_large ∷ votes_collected_absent ∷ block_version_absent ∷
-    output_short ∷ input_long ∷ status_rule_low ∷ written_value_long ∷
-    record_malformed ∷ height_unexpected ∷ window_length_outside ∷ []
+    BodyShort ∷ CountUnreadable ∷ FieldHeaderCut ∷ ValueLong ∷ ValueCut ∷ ParameterSize ∷ UpdateUnreadable ∷ MandatoryDisabled ∷
+    TooManyVotes ∷ RepeatedVote ∷ ContradictoryVote ∷ ForkVoteBarred ∷ UnknownParameter ∷ AbsentParameter ∷ EntryDiffers ∷ BlockVersionDiffers ∷
+    VotingLengthZero ∷ SettingLarge ∷ VotesCollectedAbsent ∷ BlockVersionAbsent ∷
+    OutputShort ∷ InputLong ∷ StatusRuleLow ∷ WrittenValueLong ∷
+    RecordMalformed ∷ HeightUnexpected ∷ WindowLengthOutside ∷ []

@@ -2,13 +2,6 @@
 ghost use Rattle.std.specs.Prelude.{◌≡◌, slice_set};
 ghost use Rattle.std.proofs.lemmas.List.Edits.{sets};
 
-// What a call answers that writes into a lent buffer: how many bytes it wrote, or a refusal's number.
-#[derive(Clone, Copy)]
-pub enum Wrote {
-    Bytes(usize),
-    Refused(u8),
-}
-
 // For the layers above: stores a byte at a position. A store past the end changes nothing.
 pub fn put(out: &mut [u8], at: usize, b: u8)
     ensures { out.new ≡ slice_set out.old at b }
@@ -23,14 +16,9 @@ pub fn put(out: &mut [u8], at: usize, b: u8)
 pub fn put_bytes(out: &mut [u8], at: usize, bytes: &[u8])
     ensures { out.new ≡ sets out.old at bytes.now }
 {
-    let mut k = at;
-    let mut i: usize = 0;
-    while i < bytes.len() {
-        if out.len() <= k {
-            return;
-        }
-        out[k] = bytes[i];
-        k += 1;
-        i += 1;
+    if out.len() <= at {
+        return;
     }
+    let n = bytes.len().min(out.len() - at);
+    out[at..at + n].copy_from_slice(&bytes[..n]);
 }

@@ -1,96 +1,82 @@
-// The refusal numbers. docs/RULES.md, "Who can be turned away, and by which number", says what each means and who can meet it.
+// Why a call refuses. docs/RULES.md, "Who can be turned away, and by which number", says what each means and who can meet it.
 ghost use Rattle.std.specs.Prelude.{◌≡◌};
-ghost use Rattle.codec.specs.Refusal.{refusals};
+ghost use Rattle.codec.specs.Refusal.{number, refusals};
 
-// The miner or extension author.
-pub const BODY_SHORT: u8 = 1;
+#[derive(Clone, Copy, Debug, PartialEq, Eq)]
+pub enum Refusal {
+    // The miner or extension author.
+    BodyShort = 1,
+    CountUnreadable = 2,
+    FieldHeaderCut = 3,
+    ValueLong = 4,
+    ValueCut = 5,
+    ParameterSize = 6,
+    UpdateUnreadable = 7,
+    MandatoryDisabled = 8,
+    TooManyVotes = 9,
+    RepeatedVote = 10,
+    ContradictoryVote = 11,
+    ForkVoteBarred = 12,
+    UnknownParameter = 13,
+    AbsentParameter = 14,
+    EntryDiffers = 15,
+    BlockVersionDiffers = 16,
+    // The supplier of tables and settings.
+    VotingLengthZero = 17,
+    SettingLarge = 18,
+    VotesCollectedAbsent = 19,
+    BlockVersionAbsent = 20,
+    // The caller.
+    OutputShort = 21,
+    InputLong = 22,
+    StatusRuleLow = 23,
+    WrittenValueLong = 24,
+    WindowLengthOutside = 33,
+    // The archive.
+    RecordMalformed = 25,
+    HeightUnexpected = 26,
+}
 
-pub const COUNT_UNREADABLE: u8 = 2;
+impl Refusal {
+    // Its number.
+    pub fn number(self) -> u8
+        ensures { result ≡ number self }
+    {
+        self as u8
+    }
+}
 
-pub const FIELD_HEADER_CUT: u8 = 3;
-
-pub const VALUE_LONG: u8 = 4;
-
-pub const VALUE_CUT: u8 = 5;
-
-pub const PARAMETER_SIZE: u8 = 6;
-
-pub const UPDATE_UNREADABLE: u8 = 7;
-
-pub const MANDATORY_DISABLED: u8 = 8;
-
-pub const TOO_MANY_VOTES: u8 = 9;
-
-pub const REPEATED_VOTE: u8 = 10;
-
-pub const CONTRADICTORY_VOTE: u8 = 11;
-
-pub const FORK_VOTE_BARRED: u8 = 12;
-
-pub const UNKNOWN_PARAMETER: u8 = 13;
-
-pub const ABSENT_PARAMETER: u8 = 14;
-
-pub const ENTRY_DIFFERS: u8 = 15;
-
-pub const BLOCK_VERSION_DIFFERS: u8 = 16;
-
-// The supplier of tables and settings.
-pub const VOTING_LENGTH_ZERO: u8 = 17;
-
-pub const SETTING_LARGE: u8 = 18;
-
-pub const VOTES_COLLECTED_ABSENT: u8 = 19;
-
-pub const BLOCK_VERSION_ABSENT: u8 = 20;
-
-// The caller.
-pub const OUTPUT_SHORT: u8 = 21;
-
-pub const INPUT_LONG: u8 = 22;
-
-pub const STATUS_RULE_LOW: u8 = 23;
-
-pub const WRITTEN_VALUE_LONG: u8 = 24;
-
-pub const WINDOW_LENGTH_OUTSIDE: u8 = 33;
-
-// The archive.
-pub const RECORD_MALFORMED: u8 = 25;
-
-pub const HEIGHT_UNEXPECTED: u8 = 26;
-
-// All of them, in order.
-pub fn refusals() -> [u8; 27]
+// All of them, in the order of the list.
+pub fn refusals() -> [Refusal; 27]
     ensures { result ≡ refusals }
 {
     [
-        BODY_SHORT,
-        COUNT_UNREADABLE,
-        FIELD_HEADER_CUT,
-        VALUE_LONG,
-        VALUE_CUT,
-        PARAMETER_SIZE,
-        UPDATE_UNREADABLE,
-        MANDATORY_DISABLED,
-        TOO_MANY_VOTES,
-        REPEATED_VOTE,
-        CONTRADICTORY_VOTE,
-        FORK_VOTE_BARRED,
-        UNKNOWN_PARAMETER,
-        ABSENT_PARAMETER,
-        ENTRY_DIFFERS,
-        BLOCK_VERSION_DIFFERS,
-        VOTING_LENGTH_ZERO,
-        SETTING_LARGE,
-        VOTES_COLLECTED_ABSENT,
-        BLOCK_VERSION_ABSENT,
-        OUTPUT_SHORT,
-        INPUT_LONG,
-        STATUS_RULE_LOW,
-        WRITTEN_VALUE_LONG,
-        RECORD_MALFORMED,
-        HEIGHT_UNEXPECTED,
-        WINDOW_LENGTH_OUTSIDE,
+        Refusal::BodyShort,
+        Refusal::CountUnreadable,
+        Refusal::FieldHeaderCut,
+        Refusal::ValueLong,
+        Refusal::ValueCut,
+        Refusal::ParameterSize,
+        Refusal::UpdateUnreadable,
+        Refusal::MandatoryDisabled,
+        Refusal::TooManyVotes,
+        Refusal::RepeatedVote,
+        Refusal::ContradictoryVote,
+        Refusal::ForkVoteBarred,
+        Refusal::UnknownParameter,
+        Refusal::AbsentParameter,
+        Refusal::EntryDiffers,
+        Refusal::BlockVersionDiffers,
+        Refusal::VotingLengthZero,
+        Refusal::SettingLarge,
+        Refusal::VotesCollectedAbsent,
+        Refusal::BlockVersionAbsent,
+        Refusal::OutputShort,
+        Refusal::InputLong,
+        Refusal::StatusRuleLow,
+        Refusal::WrittenValueLong,
+        Refusal::RecordMalformed,
+        Refusal::HeightUnexpected,
+        Refusal::WindowLengthOutside,
     ]
 }

@@ -4,8 +4,7 @@ ghost use Rattle.std.proofs.lemmas.List.Edits.{sets};
 ghost use Rattle.codec.specs.Output.{outcome, writes};
 ghost use Rattle.codec.specs.Vlq.{number_of, low64, below, placed, vlq_at, vlq_bytes, Shortest};
 
-use crate::output::Wrote;
-use crate::refusal::OUTPUT_SHORT;
+use crate::refusal::Refusal;
 
 // A number that was read, and the position after its bytes.
 #[derive(Clone, Copy)]
@@ -64,51 +63,40 @@ fn read_from(s: &[u8], at: usize, left: usize) -> Option<Number>
 pub fn size(x: u64) -> usize
     ensures { result ≡ length (vlq_bytes x) }
 {
-    let mut n: usize = 0;
     let mut v = x;
-    let mut left: usize = 10;
-    while 0 < left {
-        n += 1;
+    for n in 1..10 {
         if v < 128 {
             return n;
         }
         v = v / 128;
-        left -= 1;
     }
-    n
+    10
 }
 
 // Writes the shortest form of x from the buffer's start.
-pub fn write(x: u64, out: &mut [u8]) -> Wrote
+pub fn write(x: u64, out: &mut [u8]) -> Result<usize, Refusal>
     ensures out_after { outcome result out.new ≡ writes (vlq_bytes x) out.old }
     ensures shortest { Shortest x }
 {
     let n = size(x);
     if out.len() < n {
-        return Wrote::Refused(OUTPUT_SHORT);
+        return Err(Refusal::OutputShort);
     }
     put(out, 0, x);
-    Wrote::Bytes(n)
+    Ok(n)
 }
 
 // For the layers above: stores the shortest form of x from a position on, as far as the buffer reaches.
 pub fn put(out: &mut [u8], at: usize, x: u64)
     ensures { out.new ≡ sets out.old at (vlq_bytes x) }
 {
-    let mut i = at;
     let mut v = x;
-    let mut left: usize = 10;
-    while 0 < left {
-        if out.len() <= i {
-            return;
-        }
+    for i in at..out.len() {
         if v < 128 {
             out[i] = v as u8;
             return;
         }
         out[i] = (128 + v % 128) as u8;
-        i += 1;
         v = v / 128;
-        left -= 1;
     }
 }

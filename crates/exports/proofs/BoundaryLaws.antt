@@ -1,61 +1,64 @@
 -- What the calls of the boundary say, one after another. Assumes nothing.
-use mathlib.Core.Path.{◌≡◌, refl, sym, ap, ap₂, ◌∙◌, subst, subst₂}
+use mathlib.Core.Path.{◌≡◌, refl, sym, ap, ◌∙◌, subst, subst₂}
 use mathlib.Core.Logic.{inl, inr}
-use mathlib.Core.List.{List, ◌++◌}
+use mathlib.Core.List.{List}
 use Prim.Native.Nat.{ℕ}
-use Rattle.codec.specs.Output.{writing}
-use Rattle.voting.specs.declared.table.Table.{Table}
+use Rattle.std.specs.Prelude.{Result, Ok, Err, ⊤}
+use Rattle.codec.specs.declared.refusal.Refusal.{Refusal}
+use Rattle.codec.specs.declared.refusal.Refusal.TheVariants.{EntryDiffers}
+use Rattle.codec.specs.Refusal.{number}
 use Rattle.voting.specs.declared.tally.Entry.{Entry}
-use Rattle.voting.specs.Order.{SameRefusal}
-use Rattle.voting.proofs.Laws.Order.{not-zero}
-use Rattle.extension.specs.declared.update.Update.{Update}
+use Rattle.voting.specs.Order as order
 use Rattle.extension.specs.declared.boundary.Computed.{Computed}
+use Rattle.extension.specs.declared.parameters.Mismatch.{Mismatch}
 use Rattle.extension.specs.Order.{SameOutcome, InAnyOrder}
 use Rattle.lent.specs.declared.boundary.BoundaryAt.{BoundaryAt}
-use Rattle.wire.specs.Values.{table_bytes}
-use Rattle.wire.specs.Places.{update_bytes}
 use Rattle.wire.specs.Boundary.{question_of, computed_bytes}
-use Rattle.exports.specs.Reply.{Reply, reply, numbered}
-use Rattle.exports.specs.Calls.{computed_into, computed_by, boundary_of, SameReply, RepliesInAnyOrder}
-use Rattle.exports.proofs.Laws.{stops}
+use Rattle.exports.specs.Reply.{Reply, reply, numbered, answered, with_id, Told}
+use Rattle.exports.specs.Calls.{NoParameter, into, computed_by, boundary_of, SameReply, RepliesInAnyOrder, matched_code, matched_number, matched_id}
+
+-- the answer to a match, and to a mismatch
+pub matched-none : {x : Result ⊤ Mismatch} {u : ⊤} → Ok u ≡ x → (0 ≡ matched_code x) × Told 0 (matched_number x) (matched_id x)
+unfolding matched_code matched_number matched_id
+matched-none q = rw (← q) (refl, record { number_is = refl; id-is = refl })
+
+pub matched-told : {x : Result ⊤ Mismatch} {e : Mismatch} → Err e ≡ x → {n r : ℕ} → n ≡ number EntryDiffers → r ≡ with_id n e.id → Told r n e.id
+    → (r ≡ matched_code x) × Told r (matched_number x) (matched_id x)
+unfolding matched_code matched_number matched_id
+matched-told q p c t = rw (← q, ← p) (c, t)
 
 same_self : (x : Reply) → SameReply x x
 same_self (reply n cells) = (inl refl, refl)
 
--- the same outcome, written
-same-reply : (x y : Computed) (cells : List ℕ) → SameOutcome x y → SameReply (numbered (computed_into x cells)) (numbered (computed_into y cells))
-unfolding computed_into computed_bytes
-same-reply x y cells o = go o.refusal
-  where
-    bytes_same : table_bytes x.table ++ update_bytes x.activated ≡ table_bytes y.table ++ update_bytes y.activated
-    bytes_same = ap₂ (λ (t : Table) (u : Update). table_bytes t ++ update_bytes u) o.table o.activated
+no-parameter : (e : Refusal) → order.NoParameter e → NoParameter (number e)
+no-parameter e (inl q) = inl (ap number q)
+no-parameter e (inr q) = inr (ap number q)
 
-    go : SameRefusal x.refusal y.refusal → SameReply (numbered (writing x.refusal (computed_bytes x) cells)) (numbered (writing y.refusal (computed_bytes y) cells))
-    go (inl e) =
-        subst (SameReply (numbered (writing x.refusal (computed_bytes x) cells)))
-        (ap₂ (λ (n : ℕ) (bytes : List ℕ). numbered (writing n bytes cells)) e bytes_same)
-        (same_self (numbered (writing x.refusal (computed_bytes x) cells)))
-    go (inr p) =
-        subst₂ SameReply (stops x.refusal x.refusal refl (computed_bytes x) cells (not-zero x.refusal p.0))
-        (stops y.refusal y.refusal refl (computed_bytes y) cells (not-zero y.refusal p.1))
-        (inr p, refl)
+-- the same outcome, written
+same-reply : (x y : Result Computed Refusal) (cells : List ℕ) → SameOutcome x y → SameReply (numbered (into computed_bytes x cells)) (numbered (into computed_bytes y cells))
+unfolding into answered
+same-reply (Ok x) (Ok y) cells o = subst (SameReply (numbered (into computed_bytes (Ok x) cells))) (ap (λ (z : Computed). numbered (into computed_bytes (Ok z) cells)) o) (same_self (numbered (into computed_bytes (Ok x) cells)))
+same-reply (Ok x) (Err e) cells o = absurd o
+same-reply (Err d) (Ok y) cells o = absurd o
+same-reply (Err d) (Err e) cells (inl q) = (inl (ap number q), refl)
+same-reply (Err d) (Err e) cells (inr p) = (inr (no-parameter d p.0, no-parameter e p.1), refl)
 
 -- what is promised of every order, of a question that was read
-abbrev pub Promised : BoundaryAt → List Entry → List ℕ → Computed → Type 0
+abbrev pub Promised : BoundaryAt → List Entry → List ℕ → Result Computed Refusal → Type 0
 Promised a tally update c = (c ≡ computed_by a tally update) × InAnyOrder a.config a.height a.table tally a.vote update c
 
 -- the question that was read, what was computed of it, what was written of that
-module _ (tally : List Entry) (update q cells after : List ℕ) (r : ℕ) (a : BoundaryAt) (c : Computed) (p : a ≡ question_of q) (h : reply r after ≡ numbered (computed_into c cells)) where
-  in_order : c ≡ computed_by a tally update → reply r after ≡ numbered (computed_into (boundary_of tally update q) cells)
+module _ (tally : List Entry) (update q cells after : List ℕ) (r : ℕ) (a : BoundaryAt) (c : Result Computed Refusal) (p : a ≡ question_of q) (h : reply r after ≡ numbered (into computed_bytes c cells)) where
+  in_order : c ≡ computed_by a tally update → reply r after ≡ numbered (into computed_bytes (boundary_of tally update q) cells)
   unfolding boundary_of
-  in_order e = h ∙ ap (λ (d : Computed). numbered (computed_into d cells)) (e ∙ ap (λ (b : BoundaryAt). computed_by b tally update) p)
+  in_order e = h ∙ ap (λ (d : Result Computed Refusal). numbered (into computed_bytes d cells)) (e ∙ ap (λ (b : BoundaryAt). computed_by b tally update) p)
 
   in-any : InAnyOrder a.config a.height a.table tally a.vote update c → RepliesInAnyOrder tally update q cells (reply r after)
   unfolding boundary_of computed_by
   in-any any consistent other moved =
-      subst₂ SameReply (sym h) (ap (λ (b : BoundaryAt). numbered (computed_into (computed_by b other update) cells)) p)
+      subst₂ SameReply (sym h) (ap (λ (b : BoundaryAt). numbered (into computed_bytes (computed_by b other update) cells)) p)
       (same-reply c (computed_by a other update) cells (any consistent other moved))
 
   pub boundary-is : Promised a tally update c
-      → (reply r after ≡ numbered (computed_into (boundary_of tally update q) cells)) × RepliesInAnyOrder tally update q cells (reply r after)
+      → (reply r after ≡ numbered (into computed_bytes (boundary_of tally update q) cells)) × RepliesInAnyOrder tally update q cells (reply r after)
   boundary-is e = (in_order e.0, in-any e.1)

@@ -2,105 +2,112 @@
 use mathlib.Core.Path.{◌≡◌, refl, sym, ap, subst, ◌∙◌}
 use mathlib.Core.Bool.{Bool, true, false, cond, true≢false}
 use mathlib.Core.List.{List, [], ◌∷◌, ◌++◌}
-use Prim.Native.Nat.{ℕ, zero, suc, ◌≤◌}
+use Prim.Native.Nat.{ℕ, ◌≤◌}
 use native.Mathlib.Omega.{arith}
 use borrow.Author.Tests.{le-leb, leb-true}
 use lib.Dec.{leb}
 use lib.ListN.{length, drop, length-append, length-drop}
-use Rattle.codec.specs.Refusal.{output_short}
-use Rattle.codec.specs.Output.{wrote, refused, outcome, writes, writing}
-use Rattle.codec.specs.declared.output.Wrote.{Wrote}
-use Rattle.codec.specs.declared.output.Wrote.TheVariants.{Bytes, Refused}
+use Rattle.codec.specs.declared.refusal.Refusal.TheVariants.{OutputShort, EntryDiffers}
+use Rattle.codec.specs.Output.{wrote, refused, outcome, writes}
+use Rattle.std.specs.Prelude.{Result, Ok, Err}
+use Rattle.std.specs.Result.{result_unwrap_or}
+use Rattle.codec.specs.declared.refusal.Refusal.{Refusal}
 use Rattle.archive.specs.declared.replay.Replay.{Replay}
-use Rattle.archive.specs.declared.replay.Replayed.{Replayed}
-use Rattle.archive.specs.declared.replay.Verdict.{Verdict}
-use Rattle.archive.specs.declared.replay.Verdict.TheVariants.{Accepted, Mismatch}
-use Rattle.archive.specs.declared.replay.Verdict.TheVariants.{Refused as RefusedBy}
-use Rattle.archive.specs.Replay.{replay_of, verdict_number, verdict_id}
+use Rattle.archive.specs.declared.replay.Rejection.{Rejection}
+use Rattle.archive.specs.declared.replay.Rejection.TheVariants.{Refused, Mismatch}
+use Rattle.archive.specs.Replay.{replay_of, state_by, rejection_number, rejection_id}
 use Rattle.archive.specs.Rounds.{state_after}
-use Rattle.archive.proofs.Laws.Rounds.{KeepsBy, keeps}
 use Rattle.wire.specs.Put.{Written}
 use Rattle.wire.proofs.Back.{cells_of, IsWrote}
 use Rattle.wire.specs.State.{state_at, state_bytes}
 use Rattle.exports.specs.Reply.{Reply, reply, with_id, Told, answered, numbered, answer_of, number_of}
-use Rattle.exports.specs.Calls.{verdict_code, replayed_into}
+use Rattle.exports.specs.Calls.{replayed_into, replayed_number, replayed_id}
+use Rattle.exports.proofs.Laws.{number-some}
 use Rattle.exports.specs.Replays.{Replays, CallsOn}
 
 abbrev cells_in : Reply → List ℕ
 cells_in (reply r cells) = cells
 
 -- bytes that fit are written: 0 is answered
-pub zero-written : (w : Wrote) (r : ℕ) (after bytes cells : List ℕ) → length bytes ≤ length cells → r ≡ number_of w → outcome w after ≡ writes bytes cells → r ≡ 0
+pub zero-written : (w : Result ℕ Refusal) (r : ℕ) (after bytes cells : List ℕ) → length bytes ≤ length cells → r ≡ number_of w → outcome w after ≡ writes bytes cells → r ≡ 0
 unfolding writes answer_of
-zero-written (Bytes n) r after bytes cells f e q = e
-zero-written (Refused k) r after bytes cells f e q = absurd (go (leb (length bytes) (length cells)) (le-leb _ _ f) q)
+zero-written (Ok n) r after bytes cells f e q = e
+zero-written (Err k) r after bytes cells f e q = absurd (go (leb (length bytes) (length cells)) (le-leb _ _ f) q)
   where
-    go : (b : Bool) → b ≡ true → refused k after ≡ cond b (wrote (length bytes) (bytes ++ drop (length bytes) cells)) (refused output_short cells) → ⊥
+    go : (b : Bool) → b ≡ true → refused k after ≡ cond b (wrote (length bytes) (bytes ++ drop (length bytes) cells)) (refused OutputShort cells) → ⊥
     go true h p = subst IsWrote (sym p) tt
     go false h p = true≢false (sym h)
 
 -- what was written has room in the cells
-pub room : (w : Wrote) (after bytes cells : List ℕ) → Written w → outcome w after ≡ writes bytes cells → length bytes ≤ length after
+pub room : (w : Result ℕ Refusal) (after bytes cells : List ℕ) → Written w → outcome w after ≡ writes bytes cells → length bytes ≤ length after
 unfolding writes
-room (Refused k) after bytes cells t q = absurd t
-room (Bytes n) after bytes cells t q = go (leb (length bytes) (length cells)) q
+room (Err k) after bytes cells t q = cc
+room (Ok n) after bytes cells t q = go (leb (length bytes) (length cells)) q
   where
-    go : (b : Bool) → wrote n after ≡ cond b (wrote (length bytes) (bytes ++ drop (length bytes) cells)) (refused output_short cells) → length bytes ≤ length after
+    go : (b : Bool) → wrote n after ≡ cond b (wrote (length bytes) (bytes ++ drop (length bytes) cells)) (refused OutputShort cells) → length bytes ≤ length after
     go true p = rw (ap cells_of p, length-append bytes (drop (length bytes) cells)) (omega arith)
     go false p = absurd (subst IsWrote p tt)
 
 -- the cells after an answer: as many as before
-pub same-room : (n r : ℕ) (after bytes cells : List ℕ) → reply r after ≡ numbered (writing n bytes cells) → length after ≡ length cells
-unfolding answered writing writes
-same-room zero r after bytes cells p = go (leb (length bytes) (length cells)) refl p
+pub same-room : (x : Result Replay Rejection) (r : ℕ) (after cells : List ℕ) → reply r after ≡ replayed_into x cells → length after ≡ length cells
+unfolding replayed_into answered writes
+same-room (Ok s) r after cells p = go (leb (length (state_bytes s)) (length cells)) refl p
   where
-    go : (b : Bool) → leb (length bytes) (length cells) ≡ b → reply r after ≡ numbered (cond b (wrote (length bytes) (bytes ++ drop (length bytes) cells)) (refused output_short cells)) → length after ≡ length cells
+    go : (b : Bool) → leb (length (state_bytes s)) (length cells) ≡ b
+        → reply r after ≡ numbered (cond b (wrote (length (state_bytes s)) (state_bytes s ++ drop (length (state_bytes s)) cells)) (refused OutputShort cells)) → length after ≡ length cells
     go true h q =
-        let f = leb-true (length bytes) (length cells) h in
-        rw (ap cells_in q, length-append bytes (drop (length bytes) cells), length-drop (length bytes) cells) (omega arith)
+        let f = leb-true (length (state_bytes s)) (length cells) h in
+        rw (ap cells_in q, length-append (state_bytes s) (drop (length (state_bytes s)) cells), length-drop (length (state_bytes s)) cells) (omega arith)
     go false h q = ap length (ap cells_in q)
-same-room (suc n) r after bytes cells p = ap length (ap cells_in p)
+same-room (Err e) r after cells p = ap length (ap cells_in p)
 
--- a refused record leaves the cells, and the state that they hold
-kept-cells : (n r : ℕ) (after bytes cells : List ℕ) → reply r after ≡ numbered (writing (suc n) bytes cells) → after ≡ cells
-unfolding answered writing
-kept-cells n r after bytes cells p = ap cells_in p
+-- a refused record leaves the cells
+kept-cells : (e : Rejection) (r : ℕ) (after cells : List ℕ) → reply r after ≡ replayed_into (Err e) cells → after ≡ cells
+unfolding replayed_into
+kept-cells e r after cells p = ap cells_in p
 
-kept-state : (s : Replay) (v : Verdict) (t : Replay) → KeepsBy s v t → (verdict_code v ≡ 0 → ⊥) → t ≡ s
-unfolding verdict_code verdict_number verdict_id
-kept-state s Accepted t k d = absurd (d refl)
-kept-state s (RefusedBy n) t k d = k
-kept-state s (Mismatch id) t k d = k
+-- the answer to a record that is turned down
+module _ {x : Result Replay Rejection} {e : Rejection} (q : Err e ≡ x) {n i r : ℕ} (is-n : n ≡ rejection_number e) (is-i : i ≡ rejection_id e) where
+  pub turned : r ≡ with_id n i → (cells : List ℕ) → reply r cells ≡ replayed_into x cells
+  unfolding replayed_into
+  turned p cells = rw (← q, ← is-n, ← is-i, p)
 
--- the answer, by the verdict of a record that was replayed
-module _ {r n i : ℕ} (x : Replayed) (p : n ≡ verdict_number x.verdict) (q : i ≡ verdict_id x.verdict) where
-  pub code_is : r ≡ with_id n i → r ≡ verdict_code x.verdict
-  unfolding verdict_code
-  code_is e = rw (← p, ← q) e
+  pub told-of : Told r n i → Told r (replayed_number x) (replayed_id x)
+  unfolding replayed_number replayed_id
+  told-of t = rw (← q, ← is-n, ← is-i) t
 
-  pub told-by : Told r n i → (y : Replayed) → x ≡ y → (a : ℕ) → a ≡ r → Told a (verdict_number y.verdict) (verdict_id y.verdict)
-  told-by t y e a z = rw (z, ← e, ← p, ← q) t
+-- and it is not 0
+pub turned-some : (e : Rejection) {n i r : ℕ} → n ≡ rejection_number e → Told r n i → r ≡ 0 → ⊥
+unfolding rejection_number
+turned-some (Refused e) {n = n} p t z = let k : n ≡ 0 = omega (arith, t.number_is, z) in number-some e (sym p ∙ k)
+turned-some (Mismatch id) {n = n} p t z = let k : n ≡ 0 = omega (arith, t.number_is, z) in number-some EntryDiffers (sym p ∙ k)
+
+-- the state after an accepted record is written
+pub accepted-into : {x : Result Replay Rejection} {s : Replay} → Ok s ≡ x → (cells : List ℕ) → numbered (writes (state_bytes s) cells) ≡ replayed_into x cells
+unfolding replayed_into
+accepted-into q cells = rw (← q)
 
 -- an accepted record is answered by 0
-none : {r : ℕ} (v : Verdict) → Told r (verdict_number v) (verdict_id v) → verdict_code v ≡ 0 → r ≡ 0
-unfolding verdict_code
-none v t e = omega (arith, t.number_is, t.id-is, e)
+pub told-none : {x : Result Replay Rejection} {s : Replay} {r : ℕ} → Ok s ≡ x → r ≡ 0 → Told r (replayed_number x) (replayed_id x)
+unfolding replayed_number replayed_id
+told-none q z = rw (← q, z) (record { number_is = refl; id-is = refl })
+
+none : {x : Result Replay Rejection} {s : Replay} {r : ℕ} → x ≡ Ok s → Told r (replayed_number x) (replayed_id x) → r ≡ 0
+unfolding replayed_number replayed_id
+none {r = r} q t = let u : Told r 0 0 = subst (λ (y : Result Replay Rejection). Told r (replayed_number y) (replayed_id y)) q t in omega (arith, u.number_is, u.id-is)
 
 -- one call: the next state is read, and the cells are still enough
 module _ (before rec : List ℕ) (r : ℕ) (after : List ℕ) (p : Replays before rec r after) (f : 95 ≤ length before) where
-  pub call-reads : state_at after 0 ≡ (replay_of (state_at before 0) rec).state
-  unfolding replayed_into
-  call-reads = go (verdict_code (replay_of (state_at before 0) rec).verdict) refl p.answers
+  pub call-reads : state_at after 0 ≡ state_by (state_at before 0) rec
+  unfolding state_by
+  call-reads = go (replay_of (state_at before 0) rec) refl
     where
-      go : (n : ℕ) → verdict_code (replay_of (state_at before 0) rec).verdict ≡ n → reply r after ≡ numbered (writing n (state_bytes (replay_of (state_at before 0) rec).state) before) → state_at after 0 ≡ (replay_of (state_at before 0) rec).state
-      go zero e q = p.next-reads (none (replay_of (state_at before 0) rec).verdict (p.told f) e)
-      go (suc n) e q =
-          ap (λ (cells : List ℕ). state_at cells 0) (kept-cells n r after _ before q)
-          ∙ sym (kept-state (state_at before 0) (replay_of (state_at before 0) rec).verdict (replay_of (state_at before 0) rec).state (keeps (state_at before 0) rec) (λ z. absurd (let y : suc n ≡ 0 = sym e ∙ z in omega arith)))
+      go : (x : Result Replay Rejection) → replay_of (state_at before 0) rec ≡ x → state_at after 0 ≡ result_unwrap_or x (state_at before 0)
+      go (Ok s) q = ap (λ (x : Result Replay Rejection). result_unwrap_or x (state_at before 0)) (sym (p.next-reads (none q (p.told f))) ∙ q)
+      go (Err e) q = ap (λ (cells : List ℕ). state_at cells 0) (kept-cells e r after before (p.answers ∙ ap (λ (x : Result Replay Rejection). replayed_into x before) q))
 
   pub call-room : 95 ≤ length after
-  unfolding replayed_into
-  call-room = rw (same-room _ r after _ before p.answers) f
+  call-room = rw (same-room _ r after before p.answers) f
 
 -- calls one after another
 pub calls-on : (recs : List (List ℕ)) (s : Replay) (cells last : List ℕ) → 95 ≤ length cells → state_at cells 0 ≡ s → CallsOn cells recs last → state_at last 0 ≡ state_after s recs
@@ -108,4 +115,4 @@ unfolding state_after
 calls-on [] s cells last f e q = ap (λ (cells : List ℕ). state_at cells 0) q ∙ e
 calls-on (rec ∷ recs) s cells last f e q =
     let p = q.2 in
-    calls-on recs (replay_of s rec).state q.1 last (call-room cells rec q.0 q.1 p f) (call-reads cells rec q.0 q.1 p f ∙ ap (λ (u : Replay). (replay_of u rec).state) e) q.3
+    calls-on recs (state_by s rec) q.1 last (call-room cells rec q.0 q.1 p f) (call-reads cells rec q.0 q.1 p f ∙ ap (λ (u : Replay). state_by u rec) e) q.3

@@ -1,43 +1,33 @@
 -- Calls over lent bytes, each by what its bytes stand for. docs/VECTORS.md, "Bytes", has the bytes.
 -- Assumes nothing.
-use Rattle.std.specs.Prelude.{ℕ, zero, suc, ◌≤◌, ◌≡◌, Bool, cond, get_or}
+use Rattle.std.specs.Prelude.{Result, Ok, Err, ⊤, ◌⊎◌, ℕ, zero, suc, ◌≤◌, ◌≡◌, Bool, cond, get_or}
 use mathlib.Core.List.{List, [], ◌∷◌, Permᴰ}
 use Rattle.codec.specs.BigEndian.{big_endian}
-use Rattle.codec.specs.Refusal.{record_malformed}
-use Rattle.codec.specs.Output.{Outcome, refused, writes, writing}
+use Rattle.codec.specs.declared.refusal.Refusal.{Refusal}
+use Rattle.codec.specs.declared.refusal.Refusal.TheVariants.{RecordMalformed, EntryDiffers, UnknownParameter, AbsentParameter}
+use Rattle.codec.specs.Refusal.{number}
+use Rattle.archive.specs.declared.record.RecordPlace.{RecordPlace}
+use Rattle.archive.specs.declared.record.Unread.{Unread}
+use Rattle.archive.specs.declared.record.Unread.TheVariants.{Short, Malformed}
+use Rattle.archive.specs.declared.replay.Replay.{Replay}
+use Rattle.archive.specs.declared.replay.Rejection.{Rejection}
+use Rattle.extension.specs.declared.parameters.Mismatch.{Mismatch}
+use Rattle.codec.specs.Output.{Outcome, refused, writes}
 use Rattle.voting.specs.declared.settings.Network.{Network}
 use Rattle.voting.specs.declared.settings.Network.TheVariants.{Mainnet, Testnet}
 use Rattle.voting.specs.declared.settings.VotingConfig.{VotingConfig}
 use Rattle.voting.specs.declared.tally.Entry.{Entry}
-use Rattle.voting.specs.declared.tally.Tallied.{Tallied}
 use Rattle.voting.specs.Settings.{mainnet, testnet}
-use Rattle.voting.specs.Order.{Consistent, SameRefusal}
-use Rattle.extension.specs.declared.section.Parsed.{Parsed}
-use Rattle.extension.specs.declared.body.FieldAt.{FieldAt}
-use Rattle.extension.specs.declared.body.FieldAt.TheVariants.{HasField, NoField}
-use Rattle.extension.specs.declared.parameters.Parameters.{Parameters}
-use Rattle.extension.specs.declared.parameters.Matched.{Matched}
-use Rattle.extension.specs.declared.update.RuleAt.{RuleAt}
-use Rattle.extension.specs.declared.update.RuleAt.TheVariants.{HasRule, NoRule}
-use Rattle.extension.specs.declared.update.StatusAt.{StatusAt}
-use Rattle.extension.specs.declared.update.StatusAt.TheVariants.{HasStatus, NoStatus}
-use Rattle.extension.specs.declared.update.ParsedUpdate.{ParsedUpdate}
+use Rattle.voting.specs.Order.{Consistent}
 use Rattle.extension.specs.declared.boundary.Computed.{Computed}
 use Rattle.extension.specs.Boundary.{computed_of}
 use Rattle.lent.specs.declared.boundary.BoundaryAt.{BoundaryAt}
 use Rattle.legal.specs.declared.next.NextVotes.{NextVotes}
 use Rattle.legal.specs.declared.next.NextVotes.TheVariants.{Votes, Nothing}
 use Rattle.legal.specs.Legal.{next_legal_votes, total, all_legal}
-use Rattle.archive.specs.declared.record.RecordAt.{RecordAt}
-use Rattle.archive.specs.declared.record.RecordAt.TheVariants.{Whole, Short, Malformed}
-use Rattle.archive.specs.declared.replay.Verdict.{Verdict}
-use Rattle.archive.specs.declared.replay.Replayed.{Replayed}
-use Rattle.archive.specs.declared.replay.Opened.{Opened}
-use Rattle.archive.specs.Replay.{verdict_number, verdict_id}
-use Rattle.wire.specs.Values.{tally_bytes}
+use Rattle.archive.specs.Replay.{rejection_number, rejection_id}
 use Rattle.wire.specs.State.{state_bytes}
-use Rattle.wire.specs.Places.{section_bytes, update_bytes, field_bytes, rule_bytes, status_bytes, record_bytes}
-use Rattle.wire.specs.Map.{map_bytes}
+use Rattle.wire.specs.Places.{record_bytes}
 use Rattle.wire.specs.Boundary.{question_of, computed_bytes}
 use Rattle.exports.specs.Reply.{Reply, reply, minus, numbered, placed, with_id}
 
@@ -54,12 +44,26 @@ settings_of Testnet = testnet
 abbrev pub flag : Bool → ℕ
 flag b = cond b 1 0
 
--- the number and the id of a match and of a verdict
-unfoldable pub matched_code : Matched → ℕ
-matched_code m = with_id m.refusal m.id
+-- the number and the id of a mismatch, each 0 for none; and both in one
+unfoldable pub matched_number : Result ⊤ Mismatch → ℕ
+matched_number (Ok x) = 0
+matched_number (Err e) = number EntryDiffers
 
-unfoldable pub verdict_code : Verdict → ℕ
-verdict_code v = with_id (verdict_number v) (verdict_id v)
+unfoldable pub matched_id : Result ⊤ Mismatch → ℕ
+matched_id (Ok x) = 0
+matched_id (Err e) = e.id
+
+unfoldable pub matched_code : Result ⊤ Mismatch → ℕ
+matched_code m = with_id (matched_number m) (matched_id m)
+
+-- the same of a record that is replayed
+unfoldable pub replayed_number : Result Replay Rejection → ℕ
+replayed_number (Ok s) = 0
+replayed_number (Err e) = rejection_number e
+
+unfoldable pub replayed_id : Result Replay Rejection → ℕ
+replayed_id (Ok s) = 0
+replayed_id (Err e) = rejection_id e
 
 -- the next legal header after three vote bytes, and its bytes: none where there is none
 unfoldable pub next_after : List ℕ → NextVotes
@@ -79,58 +83,38 @@ walked (suc k) (b ∷ bs) = big_endian (b ∷ bs) ∷ walked k (next_bytes (next
 abbrev pub WalksAll : Type 0
 WalksAll = (k : ℕ) → total ≤ k → walked k (0 ∷ 0 ∷ 0 ∷ []) ≡ all_legal
 
--- what is written of each answer, where it is not refused
-unfoldable pub opened_into : Opened → List ℕ → Outcome
-opened_into x cells = writing x.refusal (state_bytes x.state) cells
+-- what is written of an answer, where it is not refused
+unfoldable pub into : {A : Type 0} → (A → List ℕ) → Result A Refusal → List ℕ → Outcome
+into bytes (Ok x) cells = writes (bytes x) cells
+into bytes (Err e) cells = refused e cells
 
-unfoldable pub replayed_into : Replayed → List ℕ → Outcome
-replayed_into x cells = writing (verdict_code x.verdict) (state_bytes x.state) cells
-
-unfoldable pub tallied_into : Tallied → List ℕ → Outcome
-tallied_into x cells = writing x.refusal (tally_bytes x.tally) cells
-
-unfoldable pub computed_into : Computed → List ℕ → Outcome
-computed_into x cells = writing x.refusal (computed_bytes x) cells
-
-unfoldable pub parsed_into : Parsed → List ℕ → Outcome
-parsed_into x cells = writing x.refusal (section_bytes x.section) cells
-
-unfoldable pub parameters_into : Parameters → List ℕ → Outcome
-parameters_into x cells = writing x.refusal (map_bytes x.map) cells
-
-unfoldable pub update_into : ParsedUpdate → List ℕ → Outcome
-update_into x cells = writing x.refusal (update_bytes x.update) cells
-
-unfoldable pub field_into : FieldAt → List ℕ → Outcome
-field_into (HasField f) cells = writes (field_bytes f) cells
-field_into (NoField e) cells = refused e cells
-
-unfoldable pub rule_into : RuleAt → List ℕ → Outcome
-rule_into (HasRule x) cells = writes (rule_bytes x) cells
-rule_into (NoRule e) cells = refused e cells
-
-unfoldable pub status_into : StatusAt → List ℕ → Outcome
-status_into (HasStatus x) cells = writes (status_bytes x) cells
-status_into (NoStatus e) cells = refused e cells
+-- the next state is written where the record is not turned down
+unfoldable pub replayed_into : Result Replay Rejection → List ℕ → Reply
+replayed_into (Ok s) cells = numbered (writes (state_bytes s) cells)
+replayed_into (Err e) cells = reply (with_id (rejection_number e) (rejection_id e)) cells
 
 -- a record that is whole: 0, and its place is written; so many bytes at least are missing; minus 25
-unfoldable pub record_reply : RecordAt → List ℕ → Reply
-record_reply (Whole p) cells = placed (writes (record_bytes p) cells)
-record_reply (Short n) cells = reply n cells
-record_reply Malformed cells = reply (minus record_malformed) cells
+unfoldable pub record_reply : Result RecordPlace Unread → List ℕ → Reply
+record_reply (Ok p) cells = placed (writes (record_bytes p) cells)
+record_reply (Err (Short n)) cells = reply n cells
+record_reply (Err Malformed) cells = reply (minus (number RecordMalformed)) cells
 
 -- the boundary over a tally, an update and a question
-unfoldable pub computed_by : BoundaryAt → List Entry → List ℕ → Computed
+unfoldable pub computed_by : BoundaryAt → List Entry → List ℕ → Result Computed Refusal
 computed_by q tally update = computed_of q.config q.height q.table tally q.vote update
 
-unfoldable pub boundary_of : List Entry → List ℕ → List ℕ → Computed
+unfoldable pub boundary_of : List Entry → List ℕ → List ℕ → Result Computed Refusal
 boundary_of tally update question = computed_by (question_of question) tally update
+
+-- 13 or 14
+abbrev pub NoParameter : ℕ → Type 0
+NoParameter n = (n ≡ number UnknownParameter) ⊎ (n ≡ number AbsentParameter)
 
 -- the same cells; and the same number, or each is 13 or 14
 abbrev pub SameReply : Reply → Reply → Type 0
-SameReply (reply n xs) (reply m ys) = SameRefusal n m × (xs ≡ ys)
+SameReply (reply n xs) (reply m ys) = ((n ≡ m) ⊎ (NoParameter n × NoParameter m)) × (xs ≡ ys)
 
 -- the reply to a tally in which no entry repeats or contradicts another, beside the reply to every rearrangement of it
 abbrev pub RepliesInAnyOrder : List Entry → List ℕ → List ℕ → List ℕ → Reply → Type 0
 RepliesInAnyOrder tally update question cells x =
-    Consistent tally → (other : List Entry) → Permᴰ tally other → SameReply x (numbered (computed_into (boundary_of other update question) cells))
+    Consistent tally → (other : List Entry) → Permᴰ tally other → SameReply x (numbered (into computed_bytes (boundary_of other update question) cells))

@@ -1,19 +1,19 @@
 -- What the calls of a replay promise, one by one and one after another. docs/RULES.md, "Replay".
 -- Assumes nothing.
-use Rattle.std.specs.Prelude.{ℕ, ◌≤◌, ◌≡◌, List, [], ◌∷◌, length}
-use Rattle.archive.specs.Replay.{replay_of, verdict_number, verdict_id}
+use Rattle.std.specs.Prelude.{Ok, ℕ, ◌≤◌, ◌≡◌, List, [], ◌∷◌, length}
+use Rattle.archive.specs.Replay.{replay_of}
 use Rattle.archive.specs.Rounds.{state_after}
 use Rattle.archive.specs.declared.replay.Replay.{Replay}
 use Rattle.wire.specs.State.{state_at}
-use Rattle.exports.specs.Reply.{reply, numbered, Told}
-use Rattle.exports.specs.Calls.{replayed_into}
+use Rattle.exports.specs.Reply.{reply, Told}
+use Rattle.exports.specs.Calls.{replayed_into, replayed_number, replayed_id}
 
 -- a record on the state that the cells hold: the answer, and the cells before and after. Where 0 is answered, the cells hold the very state
--- that the definition gives; and if the cells are enough for a state, the answer tells the verdict's number and id
+-- that the definition gives; and if the cells are enough for a state, the answer tells the refusal's number and id
 pub record Replays (before rec : List ℕ) (r : ℕ) (after : List ℕ) : Type 0 where
-  pub answers : reply r after ≡ numbered (replayed_into (replay_of (state_at before 0) rec) before)
-  pub next-reads : r ≡ 0 → state_at after 0 ≡ (replay_of (state_at before 0) rec).state
-  pub told : 95 ≤ length before → Told r (verdict_number (replay_of (state_at before 0) rec).verdict) (verdict_id (replay_of (state_at before 0) rec).verdict)
+  pub answers : reply r after ≡ replayed_into (replay_of (state_at before 0) rec) before
+  pub next-reads : r ≡ 0 → replay_of (state_at before 0) rec ≡ Ok (state_at after 0)
+  pub told : 95 ≤ length before → Told r (replayed_number (replay_of (state_at before 0) rec)) (replayed_id (replay_of (state_at before 0) rec))
 
 -- calls one after another on the same cells, up to the last content
 abbrev pub CallsOn : List ℕ → List (List ℕ) → List ℕ → Type 0

@@ -1,13 +1,13 @@
 -- A window through the library: as a number, and what calls one after another promise. docs/RULES.md, "Support"; docs/VECTORS.md, "Bytes".
 -- Assumes nothing.
-use Rattle.std.specs.Prelude.{ℕ, zero, suc, ◌+◌, ◌*◌, ◌/◌, ◌%◌, ◌<◌, ◌^◌, cond, List, [], ◌∷◌, ltb}
+use Rattle.std.specs.Prelude.{Result, ℕ, ◌+◌, ◌*◌, ◌/◌, ◌%◌, ◌<◌, ◌^◌, cond, List, [], ◌∷◌, ltb}
 use Rattle.voting.specs.Common.{Each, Bytes}
 use Rattle.support.specs.declared.window.Window.{Window}
-use Rattle.support.specs.declared.window.Answer.{Answer}
-use Rattle.support.specs.Window.{Left, left, put_of}
-use Rattle.support.specs.Kept.{Kept}
+use Rattle.codec.specs.declared.refusal.Refusal.{Refusal}
+use Rattle.support.specs.Window.{Left, put_of}
+use Rattle.support.specs.Kept.{Held, Kept}
 use Rattle.wire.specs.Numbers.{votes_at}
-use Rattle.exports.specs.Reply.{Reply, reply, minus}
+use Rattle.exports.specs.Reply.{Reply, reply, minus, answer_of}
 
 -- a window as a number: its length, how many headers it holds and the oldest's place, 16 bits each, the first highest
 unfoldable pub window_number : Window → ℕ
@@ -18,12 +18,8 @@ unfoldable pub window_at : ℕ → Window
 window_at n = record { length = n / 2 ^ 32 % 2 ^ 16; held = n / 2 ^ 16 % 2 ^ 16; oldest = n % 2 ^ 16 }
 
 -- the window's number, or minus the refusal's
-unfoldable pub window_or : ℕ → Window → ℕ
-window_or zero w = window_number w
-window_or (suc e) w = minus (suc e)
-
-abbrev pub window_answer : Answer → ℕ
-window_answer a = window_or a.refusal a.window
+abbrev pub window_answer : Result Window Refusal → ℕ
+window_answer = answer_of window_number minus
 
 unfoldable pub window_reply : Left → Reply
 window_reply x = reply (window_answer x.answer) x.cells
@@ -45,8 +41,8 @@ votes_of_each [] = []
 votes_of_each (votes ∷ headers) = votes_at votes 0 ∷ votes_of_each headers
 
 -- the window of that number, with the cells
-unfoldable pub number_window : Reply → Left
-number_window (reply w cells) = left (record { refusal = 0; window = window_at w }) cells
+unfoldable pub number_window : Reply → Held
+number_window (reply w cells) = record { window = window_at w; cells = cells }
 
 -- after every list of byte strings, refused ones included, the cells and the window have the support counted afresh, if the window was not refused
 -- itself

@@ -3,32 +3,32 @@ ghost use Rattle.std.specs.Prelude.{◌≡◌};
 ghost use Rattle.exports.specs.Reply.{minus, number_of, size_of, place_of, with_id, Told};
 ghost use Rattle.exports.specs.Calls.{flag};
 
-use codec::output::Wrote;
+use codec::refusal::Refusal;
 
-pub(crate) fn number_of(w: Wrote) -> u8
-    ensures { result ≡ number_of w }
+pub(crate) fn number_of<T: Copy>(x: Result<T, Refusal>) -> u8
+    ensures { result ≡ number_of x }
 {
-    match w {
-        Wrote::Bytes(_) => 0,
-        Wrote::Refused(e) => e,
+    match x {
+        Ok(_) => 0,
+        Err(e) => e.number(),
     }
 }
 
-pub(crate) fn size_of(w: Wrote) -> usize
+pub(crate) fn size_of(w: Result<usize, Refusal>) -> usize
     ensures { result ≡ size_of w }
 {
     match w {
-        Wrote::Bytes(n) => n,
-        Wrote::Refused(e) => minus(e),
+        Ok(n) => n,
+        Err(e) => minus(e.number()),
     }
 }
 
-pub(crate) fn place_of(w: Wrote) -> usize
+pub(crate) fn place_of(w: Result<usize, Refusal>) -> usize
     ensures { result ≡ place_of w }
 {
     match w {
-        Wrote::Bytes(_) => 0,
-        Wrote::Refused(e) => minus(e),
+        Ok(_) => 0,
+        Err(e) => minus(e.number()),
     }
 }
 

@@ -4,10 +4,12 @@ ghost use Rattle.voting.specs.Table.{check_block_version};
 ghost use Rattle.extension.specs.Parameters.{check_parameters};
 ghost use Rattle.wire.specs.Values.{table_at};
 ghost use Rattle.wire.specs.Map.{map_of};
-ghost use Rattle.exports.specs.Reply.{reply, numbered, Told};
-ghost use Rattle.exports.specs.Calls.{computed_into, boundary_of, RepliesInAnyOrder, matched_code};
+ghost use Rattle.wire.specs.Boundary.{computed_bytes};
+ghost use Rattle.exports.specs.Reply.{reply, numbered, Told, number_of};
+ghost use Rattle.exports.specs.Calls.{boundary_of, RepliesInAnyOrder, matched_code, into, matched_number, matched_id};
 
 use crate::answer;
+use codec::refusal::Refusal;
 use extension::boundary::Computed;
 use extension::parameters;
 use lent::boundary;
@@ -15,13 +17,13 @@ use voting::table;
 use voting::tally::Entry;
 use wire::{boundary as bytes, map, values};
 
-fn write_computed(out: &mut [u8], x: Computed) -> u8
-    ensures { reply result out.new ≡ numbered (computed_into x out.old) }
+fn write_computed(out: &mut [u8], x: Result<Computed, Refusal>) -> u8
+    ensures { reply result out.new ≡ numbered (into computed_bytes x out.old) }
 {
-    if x.refusal != 0 {
-        return x.refusal;
+    match x {
+        Ok(c) => answer::number_of(bytes::write_computed(c, out)),
+        Err(e) => e.number(),
     }
-    answer::number_of(bytes::write_computed(x, out))
 }
 
 // The table after a boundary and the activated update, into cells: 0, or 22, 7, 8, 17 to 20, 13, 14, 21. An entry of the tally is eight
@@ -34,7 +36,7 @@ pub extern "C" fn ergo_compute_boundary_parameters(
     question: &[u8],
     out: &mut [u8],
 ) -> u8
-    ensures { (reply result out.new ≡ numbered (computed_into (boundary_of tally.now proposed_update.now question.now) out.old))
+    ensures { (reply result out.new ≡ numbered (into computed_bytes (boundary_of tally.now proposed_update.now question.now) out.old))
         × (RepliesInAnyOrder tally.now proposed_update.now question.now out.old (reply result out.new)) }
 {
     write_computed(
@@ -47,18 +49,21 @@ pub extern "C" fn ergo_compute_boundary_parameters(
 #[unsafe(no_mangle)]
 pub extern "C" fn ergo_check_parameters_v6(table: &[u8], parameters: &[u8]) -> u16
     ensures value { result ≡ matched_code (check_parameters (table_at table.now 0) (map_of parameters.now)) }
-    ensures told { Told result (check_parameters (table_at table.now 0) (map_of parameters.now)).refusal (check_parameters (table_at table.now 0) (map_of parameters.now)).id }
+    ensures told { Told result (matched_number (check_parameters (table_at table.now 0) (map_of parameters.now))) (matched_id (check_parameters (table_at table.now 0) (map_of parameters.now))) }
 {
     let t = values::table_of(table);
     let m = map::map_of(parameters);
     let x = parameters::check_parameters_v6(t, m);
-    answer::with_id(x.refusal, x.id)
+    match x {
+        Ok(()) => 0,
+        Err(e) => answer::with_id(Refusal::EntryDiffers.number(), e.id),
+    }
 }
 
 // Whether a block has the table's version: 0, or 16, 20.
 #[unsafe(no_mangle)]
 pub extern "C" fn ergo_check_block_version(table: &[u8], version: u8) -> u8
-    ensures { result ≡ check_block_version (table_at table.now 0) version }
+    ensures { result ≡ number_of (check_block_version (table_at table.now 0) version) }
 {
-    table::check_block_version(values::table_of(table), version)
+    answer::number_of(table::check_block_version(values::table_of(table), version))
 }

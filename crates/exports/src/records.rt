@@ -9,8 +9,8 @@ ghost use Rattle.exports.specs.Calls.{record_reply};
 
 use crate::answer;
 use archive::record;
-use archive::record::RecordAt;
-use codec::refusal;
+use archive::record::Unread;
+use codec::refusal::Refusal;
 use stream::lines;
 use wire::{places, values};
 
@@ -20,9 +20,9 @@ pub extern "C" fn ergo_read_record(bytes: &[u8], votes_size: usize, out: &mut [u
     ensures { reply result out.new ≡ record_reply (record_at bytes.now votes_size) out.old }
 {
     match record::read_record(bytes, votes_size) {
-        RecordAt::Whole(p) => answer::place_of(places::write_record(p, out)),
-        RecordAt::Short(n) => n,
-        RecordAt::Malformed => answer::minus(refusal::RECORD_MALFORMED),
+        Ok(p) => answer::place_of(places::write_record(p, out)),
+        Err(Unread::Short(n)) => n,
+        Err(Unread::Malformed) => answer::minus(Refusal::RecordMalformed.number()),
     }
 }
 
@@ -40,8 +40,7 @@ pub extern "C" fn ergo_write_epoch(height: u32, table: &[u8], out: &mut [u8]) ->
     ensures { reply result out.new ≡ sized (writes (epoch_line height (table_at table.now 0).fork) out.old) }
 {
     let t = values::table_of(table);
-    let fork = t.fork;
-    answer::size_of(lines::write_epoch(height, fork, out))
+    answer::size_of(lines::write_epoch(height, t.fork, out))
 }
 
 // The last line, with the number of epochs that were accepted and the refusal's number or 0.

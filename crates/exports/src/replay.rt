@@ -2,9 +2,9 @@
 ghost use Rattle.std.specs.Prelude.{◌≡◌};
 ghost use Rattle.archive.specs.Replay.{open_of};
 ghost use Rattle.wire.specs.Values.{table_at};
-ghost use Rattle.wire.specs.State.{state_at};
+ghost use Rattle.wire.specs.State.{state_at, state_bytes};
+ghost use Rattle.exports.specs.Calls.{into};
 ghost use Rattle.exports.specs.Reply.{reply, numbered};
-ghost use Rattle.exports.specs.Calls.{opened_into};
 ghost use Rattle.exports.specs.Replays.{Replays, Onward};
 
 use crate::answer;
@@ -14,16 +14,14 @@ use wire::{state as states, values};
 // Opens a replay on mainnet's settings, at a height and with a table, into a state. 0, or 26, or 21.
 #[unsafe(no_mangle)]
 pub extern "C" fn ergo_open(height: u32, table: &[u8], state: &mut [u8]) -> u8
-    ensures state_after { reply result state.new ≡ numbered (opened_into (open_of height (table_at table.now 0)) state.old) }
-    ensures next_reads { result ≡ 0 → state_at state.new 0 ≡ (open_of height (table_at table.now 0)).state }
-    ensures onward { result ≡ 0 → Onward state.new (open_of height (table_at table.now 0)).state }
+    ensures state_after { reply result state.new ≡ numbered (into state_bytes (open_of height (table_at table.now 0)) state.old) }
+    ensures next_reads { result ≡ 0 → open_of height (table_at table.now 0) ≡ Ok (state_at state.new 0) }
+    ensures onward { result ≡ 0 → Onward state.new (state_at state.new 0) }
 {
-    let x = replay::open(height, values::table_of(table));
-    let opened = x.state;
-    if x.refusal != 0 {
-        return x.refusal;
+    match replay::open(height, values::table_of(table)) {
+        Ok(opened) => answer::number_of(states::write_state(opened, state)),
+        Err(e) => e.number(),
     }
-    answer::number_of(states::write_state(opened, state))
 }
 
 // Replays a record on a state, which becomes the state after it. 0, or the refusal's number, and for 15 also 256 times the least id that
@@ -33,12 +31,8 @@ pub extern "C" fn ergo_replay(state: &mut [u8], rec: &[u8]) -> u16
     ensures { Replays state.old rec.now result state.new }
 {
     let before = states::state_of(state);
-    let x = before.replay(rec);
-    let verdict = x.verdict;
-    let after = x.state;
-    let code = answer::with_id(verdict.number(), verdict.id());
-    if code != 0 {
-        return code;
+    match before.replay(rec) {
+        Ok(after) => answer::number_of(states::write_state(after, state)) as u16,
+        Err(e) => answer::with_id(e.number(), e.id()),
     }
-    answer::number_of(states::write_state(after, state)) as u16
 }

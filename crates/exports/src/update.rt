@@ -2,46 +2,44 @@
 ghost use Rattle.std.specs.Prelude.{◌≡◌};
 ghost use Rattle.extension.specs.Mandatory.{mandatory};
 ghost use Rattle.extension.specs.Update.{update_of, update_rule, update_status};
+ghost use Rattle.wire.specs.Places.{update_bytes, rule_bytes, status_bytes};
 ghost use Rattle.exports.specs.Reply.{reply, numbered};
-ghost use Rattle.exports.specs.Calls.{flag, update_into, rule_into, status_into};
+ghost use Rattle.exports.specs.Calls.{flag, into};
 
 use crate::answer;
-use extension::update::{RuleAt, StatusAt};
 use extension::{mandatory, update};
 use wire::places;
 
 // The sections of an update's rules and statuses, into cells: 0, or 22, 7, 8, 21.
 #[unsafe(no_mangle)]
 pub extern "C" fn ergo_parse_validation_settings_update(bytes: &[u8], out: &mut [u8]) -> u8
-    ensures { reply result out.new ≡ numbered (update_into (update_of bytes.now) out.old) }
+    ensures { reply result out.new ≡ numbered (into update_bytes (update_of bytes.now) out.old) }
 {
-    let x = update::parse_validation_settings_update(bytes);
-    let u = x.update;
-    if x.refusal != 0 {
-        return x.refusal;
+    match update::parse_validation_settings_update(bytes) {
+        Ok(u) => answer::number_of(places::write_update(u, out)),
+        Err(e) => e.number(),
     }
-    answer::number_of(places::write_update(u, out))
 }
 
 // The rule at a position of an update, into cells: 0, or 22, 7, 21.
 #[unsafe(no_mangle)]
 pub extern "C" fn ergo_rule_at(bytes: &[u8], at: usize, out: &mut [u8]) -> u8
-    ensures { reply result out.new ≡ numbered (rule_into (update_rule bytes.now at) out.old) }
+    ensures { reply result out.new ≡ numbered (into rule_bytes (update_rule bytes.now at) out.old) }
 {
     match update::rule_at(bytes, at) {
-        RuleAt::HasRule(x) => answer::number_of(places::write_rule(x, out)),
-        RuleAt::NoRule(e) => e,
+        Ok(x) => answer::number_of(places::write_rule(x, out)),
+        Err(e) => e.number(),
     }
 }
 
 // The status at a position of an update, into cells: 0, or 22, 7, 21. The next one stands where its raw bytes end.
 #[unsafe(no_mangle)]
 pub extern "C" fn ergo_status_at(bytes: &[u8], at: usize, out: &mut [u8]) -> u8
-    ensures { reply result out.new ≡ numbered (status_into (update_status bytes.now at) out.old) }
+    ensures { reply result out.new ≡ numbered (into status_bytes (update_status bytes.now at) out.old) }
 {
     match update::status_at(bytes, at) {
-        StatusAt::HasStatus(x) => answer::number_of(places::write_status(x, out)),
-        StatusAt::NoStatus(e) => e,
+        Ok(x) => answer::number_of(places::write_status(x, out)),
+        Err(e) => e.number(),
     }
 }
 

@@ -6,8 +6,9 @@ ghost use Rattle.exports.specs.Reply.{reply};
 ghost use Rattle.exports.specs.Windows.{window_number, window_at, window_answer, window_reply, KeptThrough};
 
 use crate::answer;
+use codec::refusal::Refusal;
 use support::window;
-use support::window::{Answer, Window};
+use support::window::Window;
 use wire::numbers;
 
 // A window of a length in lent cells: its number, or minus 33, 21.
@@ -29,14 +30,13 @@ pub extern "C" fn ergo_window_put(window: u64, cells: &mut [u16], votes: &[u8]) 
     answer_of(w.put(cells, v))
 }
 
-fn answer_of(x: Answer) -> usize
+fn answer_of(x: Result<Window, Refusal>) -> usize
     ensures { result ≡ window_answer x }
 {
-    let w = x.window;
-    if x.refusal != 0 {
-        return answer::minus(x.refusal);
+    match x {
+        Ok(w) => window_number(w) as usize,
+        Err(e) => answer::minus(e.number()),
     }
-    window_number(w) as usize
 }
 
 fn window_number(w: Window) -> u64

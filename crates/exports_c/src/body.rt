@@ -3,15 +3,17 @@ ghost use Rattle.std.specs.Prelude.{◌≡◌};
 ghost use Rattle.codec.specs.Output.{writes};
 ghost use Rattle.extension.specs.Body.{extension_of, body_field, proposed_update, check_body};
 ghost use Rattle.extension.specs.Parameters.{parameters_of};
-ghost use Rattle.exports.specs.Reply.{reply, numbered, sized};
-ghost use Rattle.exports.specs.Calls.{parsed_into, field_into, parameters_into};
+ghost use Rattle.wire.specs.Places.{section_bytes, field_bytes};
+ghost use Rattle.wire.specs.Map.{map_bytes};
+ghost use Rattle.exports.specs.Calls.{into};
+ghost use Rattle.exports.specs.Reply.{reply, numbered, sized, number_of};
 
 use exports::body as calls;
 
 // Whether a body is in form: 0, or 22, 1 to 6.
 #[unsafe(no_mangle)]
 pub extern "C" fn ergo_check_body(bytes: &[u8]) -> u8
-    ensures { result ≡ (check_body bytes.now).refusal }
+    ensures { result ≡ number_of (check_body bytes.now) }
 {
     calls::ergo_check_body(bytes)
 }
@@ -19,7 +21,7 @@ pub extern "C" fn ergo_check_body(bytes: &[u8]) -> u8
 // The section of a body's fields, into cells: 0, or 22, 1 to 5, 21. The id is the body's first 32 bytes.
 #[unsafe(no_mangle)]
 pub extern "C" fn ergo_parse_extension_bytes(bytes: &[u8], out: &mut [u8]) -> u8
-    ensures { reply result out.new ≡ numbered (parsed_into (extension_of bytes.now) out.old) }
+    ensures { reply result out.new ≡ numbered (into section_bytes (extension_of bytes.now) out.old) }
 {
     calls::ergo_parse_extension_bytes(bytes, out)
 }
@@ -27,7 +29,7 @@ pub extern "C" fn ergo_parse_extension_bytes(bytes: &[u8], out: &mut [u8]) -> u8
 // The field at a position of a body, into cells: 0, or 22, 3, 4, 5, 21. The next one stands where its value ends.
 #[unsafe(no_mangle)]
 pub extern "C" fn ergo_field_at(bytes: &[u8], at: usize, out: &mut [u8]) -> u8
-    ensures { reply result out.new ≡ numbered (field_into (body_field bytes.now at) out.old) }
+    ensures { reply result out.new ≡ numbered (into field_bytes (body_field bytes.now at) out.old) }
 {
     calls::ergo_field_at(bytes, at, out)
 }
@@ -35,7 +37,7 @@ pub extern "C" fn ergo_field_at(bytes: &[u8], at: usize, out: &mut [u8]) -> u8
 // A body's parameters, into cells: how many bytes were written, or minus 22, 1 to 6, 21.
 #[unsafe(no_mangle)]
 pub extern "C" fn ergo_parse_parameters_from_kv(bytes: &[u8], out: &mut [u8]) -> usize
-    ensures { reply result out.new ≡ sized (parameters_into (parameters_of bytes.now) out.old) }
+    ensures { reply result out.new ≡ sized (into map_bytes (parameters_of bytes.now) out.old) }
 {
     calls::ergo_parse_parameters_from_kv(bytes, out)
 }

@@ -4,8 +4,9 @@ ghost use Rattle.voting.specs.Table.{check_block_version};
 ghost use Rattle.extension.specs.Parameters.{check_parameters};
 ghost use Rattle.wire.specs.Values.{table_at};
 ghost use Rattle.wire.specs.Map.{map_of};
-ghost use Rattle.exports.specs.Reply.{reply, numbered, Told};
-ghost use Rattle.exports.specs.Calls.{computed_into, boundary_of, RepliesInAnyOrder, matched_code};
+ghost use Rattle.wire.specs.Boundary.{computed_bytes};
+ghost use Rattle.exports.specs.Reply.{reply, numbered, Told, number_of};
+ghost use Rattle.exports.specs.Calls.{boundary_of, RepliesInAnyOrder, matched_code, into, matched_number, matched_id};
 
 use exports::boundary as calls;
 use voting::tally::Entry;
@@ -20,7 +21,7 @@ pub extern "C" fn ergo_compute_boundary_parameters(
     question: &[u8],
     out: &mut [u8],
 ) -> u8
-    ensures { (reply result out.new ≡ numbered (computed_into (boundary_of tally.now proposed_update.now question.now) out.old))
+    ensures { (reply result out.new ≡ numbered (into computed_bytes (boundary_of tally.now proposed_update.now question.now) out.old))
         × (RepliesInAnyOrder tally.now proposed_update.now question.now out.old (reply result out.new)) }
 {
     calls::ergo_compute_boundary_parameters(tally, proposed_update, question, out)
@@ -30,7 +31,7 @@ pub extern "C" fn ergo_compute_boundary_parameters(
 #[unsafe(no_mangle)]
 pub extern "C" fn ergo_check_parameters_v6(table: &[u8], parameters: &[u8]) -> u16
     ensures value { result ≡ matched_code (check_parameters (table_at table.now 0) (map_of parameters.now)) }
-    ensures told { Told result (check_parameters (table_at table.now 0) (map_of parameters.now)).refusal (check_parameters (table_at table.now 0) (map_of parameters.now)).id }
+    ensures told { Told result (matched_number (check_parameters (table_at table.now 0) (map_of parameters.now))) (matched_id (check_parameters (table_at table.now 0) (map_of parameters.now))) }
 {
     calls::ergo_check_parameters_v6(table, parameters)
 }
@@ -38,7 +39,7 @@ pub extern "C" fn ergo_check_parameters_v6(table: &[u8], parameters: &[u8]) -> u
 // Whether a block has the table's version: 0, or 16, 20.
 #[unsafe(no_mangle)]
 pub extern "C" fn ergo_check_block_version(table: &[u8], version: u8) -> u8
-    ensures { result ≡ check_block_version (table_at table.now 0) version }
+    ensures { result ≡ number_of (check_block_version (table_at table.now 0) version) }
 {
     calls::ergo_check_block_version(table, version)
 }

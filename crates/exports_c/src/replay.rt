@@ -2,9 +2,9 @@
 ghost use Rattle.std.specs.Prelude.{◌≡◌};
 ghost use Rattle.archive.specs.Replay.{open_of};
 ghost use Rattle.wire.specs.Values.{table_at};
-ghost use Rattle.wire.specs.State.{state_at};
+ghost use Rattle.wire.specs.State.{state_at, state_bytes};
+ghost use Rattle.exports.specs.Calls.{into};
 ghost use Rattle.exports.specs.Reply.{reply, numbered};
-ghost use Rattle.exports.specs.Calls.{opened_into};
 ghost use Rattle.exports.specs.Replays.{Replays, Onward};
 
 use exports::replay as calls;
@@ -12,9 +12,9 @@ use exports::replay as calls;
 // Opens a replay on mainnet's settings, at a height and with a table, into a state. 0, or 26, or 21.
 #[unsafe(no_mangle)]
 pub extern "C" fn ergo_open(height: u32, table: &[u8], state: &mut [u8]) -> u8
-    ensures state_after { reply result state.new ≡ numbered (opened_into (open_of height (table_at table.now 0)) state.old) }
-    ensures next_reads { result ≡ 0 → state_at state.new 0 ≡ (open_of height (table_at table.now 0)).state }
-    ensures onward { result ≡ 0 → Onward state.new (open_of height (table_at table.now 0)).state }
+    ensures state_after { reply result state.new ≡ numbered (into state_bytes (open_of height (table_at table.now 0)) state.old) }
+    ensures next_reads { result ≡ 0 → open_of height (table_at table.now 0) ≡ Ok (state_at state.new 0) }
+    ensures onward { result ≡ 0 → Onward state.new (state_at state.new 0) }
 {
     calls::ergo_open(height, table, state)
 }

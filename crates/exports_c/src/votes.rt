@@ -3,19 +3,19 @@ ghost use Rattle.std.specs.Prelude.{◌≡◌};
 ghost use Rattle.codec.specs.Output.{writes};
 ghost use Rattle.voting.specs.Header.{check_header_votes};
 ghost use Rattle.voting.specs.Tally.{tally_votes_seeded};
-ghost use Rattle.voting.specs.ForkCheck.{check_fork_vote, fork_refusal};
+ghost use Rattle.voting.specs.ForkCheck.{check_fork_vote};
 ghost use Rattle.headers.specs.Headers.{check_headers};
 ghost use Rattle.wire.specs.Numbers.{votes_at};
-ghost use Rattle.wire.specs.Values.{table_at, settings_at};
-ghost use Rattle.exports.specs.Reply.{reply, numbered, sized};
-ghost use Rattle.exports.specs.Calls.{tallied_into, next_after, next_bytes, WalksAll};
+ghost use Rattle.wire.specs.Values.{table_at, settings_at, tally_bytes};
+ghost use Rattle.exports.specs.Reply.{reply, numbered, sized, number_of};
+ghost use Rattle.exports.specs.Calls.{next_after, next_bytes, WalksAll, into};
 
 use exports::votes as calls;
 
 // Whether the three votes of a header are legal: 0, or 9, 10, 11.
 #[unsafe(no_mangle)]
 pub extern "C" fn ergo_check_header_votes(votes: &[u8]) -> u8
-    ensures { result ≡ check_header_votes (votes_at votes.now 0) }
+    ensures { result ≡ number_of (check_header_votes (votes_at votes.now 0)) }
 {
     calls::ergo_check_header_votes(votes)
 }
@@ -23,7 +23,7 @@ pub extern "C" fn ergo_check_header_votes(votes: &[u8]) -> u8
 // The same of the headers of an epoch, three bytes each, in order: the first refusal.
 #[unsafe(no_mangle)]
 pub extern "C" fn ergo_check_headers(votes: &[u8]) -> u8
-    ensures { result ≡ check_headers votes.now }
+    ensures { result ≡ number_of (check_headers votes.now) }
 {
     calls::ergo_check_headers(votes)
 }
@@ -46,7 +46,7 @@ pub extern "C" fn ergo_tally_votes_seeded(
     voting_length: u32,
     out: &mut [u8],
 ) -> u8
-    ensures { reply result out.new ≡ numbered (tallied_into (tally_votes_seeded first_height votes.now boundary_height voting_length) out.old) }
+    ensures { reply result out.new ≡ numbered (into tally_bytes (tally_votes_seeded first_height votes.now boundary_height voting_length) out.old) }
 {
     calls::ergo_tally_votes_seeded(first_height, votes, boundary_height, voting_length, out)
 }
@@ -59,7 +59,7 @@ pub extern "C" fn ergo_check_fork_vote(
     votes: &[u8],
     table: &[u8],
 ) -> u8
-    ensures { result ≡ fork_refusal (check_fork_vote (settings_at settings.now 0) height (votes_at votes.now 0) (table_at table.now 0)) }
+    ensures { result ≡ number_of (check_fork_vote (settings_at settings.now 0) height (votes_at votes.now 0) (table_at table.now 0)) }
 {
     calls::ergo_check_fork_vote(settings, height, votes, table)
 }

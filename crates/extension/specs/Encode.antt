@@ -1,17 +1,18 @@
 -- Settings updates as they are written, and an update read and written again. docs/RULES.md, "Settings update" and "Writers and rest". What
 -- the writers answer stands in crates/writers/specs/Encode.antt.
 -- Assumes nothing.
-use Rattle.std.specs.Prelude.{ℕ, zero, suc, ◌+◌, ◌<◌, Bool, false, cond, ◌&&◌, ◌||◌, ◌≡◌, List, [], ◌∷◌, ◌++◌, ltb, eqb, ℤ, pos, length, take, drop, Option, Some, None}
+use Rattle.std.specs.Prelude.{Result, Ok, Err, ℕ, zero, suc, ◌+◌, ◌<◌, Bool, false, cond, ◌&&◌, ◌||◌, ◌≡◌, List, [], ◌∷◌, ◌++◌, ltb, eqb, ℤ, pos, length, take, drop, Option, Some, None}
 use Rattle.std.specs.Int.Signed.{lt_z}
-use Rattle.codec.specs.Refusal.{update_unreadable, input_long, status_rule_low}
+use Rattle.codec.specs.declared.refusal.Refusal.TheVariants.{UpdateUnreadable, InputLong, StatusRuleLow}
 use Rattle.codec.specs.Rule.{first_rule, offset_of}
 use Rattle.codec.specs.Vlq.{vlq_at, vlq_bytes}
 use Rattle.codec.specs.declared.vlq.Number.{Number}
-use Rattle.extension.specs.declared.update.StatusAt.{StatusAt}
-use Rattle.extension.specs.declared.update.StatusAt.TheVariants.{HasStatus, NoStatus}
+use Rattle.codec.specs.declared.refusal.Refusal.{Refusal}
+use Rattle.codec.specs.Check.{Check, passed}
+use Rattle.extension.specs.declared.update.StatusPlace.{StatusPlace}
 use Rattle.extension.specs.declared.update.Update.{Update}
 use Rattle.extension.specs.Section.{part, any}
-use Rattle.extension.specs.Update.{Status, status_at, update_of, rules_in, statuses_in}
+use Rattle.extension.specs.Update.{Status, status_at, rules_in, statuses_in}
 
 unfoldable pub rules_bytes : List ℕ → List ℕ
 rules_bytes [] = []
@@ -53,10 +54,10 @@ too_large rules ids codes sizes =
     ltb 65536 (length rules) || ltb 65536 (length ids) || ltb 65536 (length codes) || ltb 65536 (length sizes) || any (ltb 65535) sizes
 
 -- 22, then 23, then 7 where the lists disagree
-unfoldable pub encode_refusal : List ℕ → List ℤ → List ℕ → List ℕ → List ℕ → ℕ
-encode_refusal rules ids codes sizes raw =
-    cond (too_large rules ids codes sizes) input_long
-    (cond (any low_rule ids) status_rule_low (cond (agree ids codes sizes raw) 0 update_unreadable))
+unfoldable pub check_update : List ℕ → List ℤ → List ℕ → List ℕ → List ℕ → Check
+check_update rules ids codes sizes raw =
+    cond (too_large rules ids codes sizes) (Err InputLong)
+    (cond (any low_rule ids) (Err StatusRuleLow) (cond (agree ids codes sizes raw) passed (Err UpdateUnreadable)))
 
 -- statuses taken apart, as a caller hands them over
 unfoldable pub ids_of : List Status → List ℤ
@@ -84,9 +85,9 @@ abbrev pub next_of : Option Number → ℕ
 next_of None = 0
 next_of (Some m) = m.next
 
-abbrev pub end_of : StatusAt → ℕ
-end_of (HasStatus x) = x.end
-end_of (NoStatus e) = 0
+abbrev pub end_of : Result StatusPlace Refusal → ℕ
+end_of (Ok x) = x.end
+end_of (Err e) = 0
 
 abbrev pub ShortRules : ℕ → List ℕ → ℕ → Type 0
 ShortRules zero s at = Unit {0}
@@ -111,9 +112,9 @@ pub record ShortUpdate (s : List ℕ) (u : Update) : Type 0 where
 
 -- it is what the writer gives for its rules and its statuses
 pub record UpdateBack (s : List ℕ) (rules : List ℕ) (statuses : List Status) : Type 0 where
-  pub accepted : encode_refusal rules (ids_of statuses) (codes_of statuses) (sizes_of statuses) (all_raw statuses) ≡ 0
+  pub accepted : check_update rules (ids_of statuses) (codes_of statuses) (sizes_of statuses) (all_raw statuses) ≡ passed
   pub together : status_list (ids_of statuses) (codes_of statuses) (sizes_of statuses) (all_raw statuses) ≡ statuses
   pub same_bytes : encoded rules statuses ≡ s
 
-abbrev pub UpdateAgain : List ℕ → Update → Type 0
-UpdateAgain s u = (update_of s).refusal ≡ 0 → ShortUpdate s u → UpdateBack s (rules_in s u) (statuses_in s u)
+abbrev pub UpdateAgain : List ℕ → Result Update Refusal → Type 0
+UpdateAgain s r = (u : Update) → r ≡ Ok u → ShortUpdate s u → UpdateBack s (rules_in s u) (statuses_in s u)

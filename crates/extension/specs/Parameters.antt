@@ -1,17 +1,16 @@
 -- The parameters of a body, and the match of a computed table against them. docs/RULES.md, "Extension body and match".
 -- Assumes nothing.
-use Rattle.std.specs.Prelude.{ℕ, zero, suc, ◌<◌, ◌≡◌, ◌⊎◌, Bool, true, false, cond, ◌&&◌, List, [], ◌∷◌, eqb, ℤ, length, get_or, set, replicate, None, Some}
-use Rattle.codec.specs.Refusal.{entry_differs}
+use Rattle.std.specs.Prelude.{Result, Ok, Err, ⊤, MatchResult, ℕ, zero, suc, ◌<◌, ◌≡◌, Bool, true, false, cond, ◌&&◌, List, [], ◌∷◌, eqb, ℤ, length, get_or, set, replicate, None, Some}
 use Rattle.codec.specs.Signed.{signed_of}
 use Rattle.codec.specs.BigEndian.{big_endian}
 use Rattle.voting.specs.Common.{eq_z}
 use Rattle.voting.specs.Table.{lookup}
 use Rattle.voting.specs.Value.{Value}
 use Rattle.voting.specs.declared.table.Table.{Table}
-use Rattle.extension.specs.declared.section.Parsed.{Parsed}
+use Rattle.codec.specs.declared.refusal.Refusal.{Refusal}
+use Rattle.codec.specs.Check.{and_then}
 use Rattle.extension.specs.declared.parameters.ParameterMap.{ParameterMap}
-use Rattle.extension.specs.declared.parameters.Parameters.{Parameters}
-use Rattle.extension.specs.declared.parameters.Matched.{Matched}
+use Rattle.extension.specs.declared.parameters.Mismatch.{Mismatch}
 use Rattle.extension.specs.Section.{section_items}
 use Rattle.extension.specs.Body.{Field, parameter_key, read_field, check_body}
 
@@ -38,12 +37,9 @@ unfoldable pub parameters_in : List Field → ParameterMap → ParameterMap
 parameters_in [] m = m
 parameters_in (f ∷ fs) m = parameters_in fs (taken f m)
 
--- of a body that is checked; a refused one has none
-unfoldable pub read_parameters : List ℕ → Parsed → Parameters
-read_parameters body x = record { refusal = x.refusal; map = parameters_in (section_items (read_field body) x.section) no_parameters }
-
-unfoldable pub parameters_of : List ℕ → Parameters
-parameters_of body = read_parameters body (check_body body)
+-- of a body that is checked
+unfoldable pub parameters_of : List ℕ → Result ParameterMap Refusal
+parameters_of body = and_then (check_body body) (λ x. Ok (parameters_in (section_items (read_field body) x) no_parameters))
 
 -- a computed entry stands, equal, among the parameters; an absent one asks nothing
 unfoldable pub agrees : Value → Value → Bool
@@ -60,12 +56,12 @@ unfoldable pub first_differing : Table → ParameterMap → List ℕ → ℕ
 first_differing t m [] = 0
 first_differing t m (id ∷ ids) = cond (agrees (lookup t id) (entry_of m id)) (first_differing t m ids) id
 
-unfoldable pub matched : ℕ → Matched
-matched zero = record { refusal = 0; id = 0 }
-matched (suc k) = record { refusal = entry_differs; id = suc k }
+unfoldable pub matched : ℕ → Result ⊤ Mismatch
+matched zero = Ok tt
+matched (suc k) = Err (record { id = suc k })
 
 -- 15 with the least id that differs
-unfoldable pub check_parameters : Table → ParameterMap → Matched
+unfoldable pub check_parameters : Table → ParameterMap → Result ⊤ Mismatch
 check_parameters t m = matched (first_differing t m table_ids)
 
 -- What 15 carries, without the order of a list. An entry stands: if the table has a number under the id, the parameters have the same there.
@@ -76,7 +72,6 @@ Stands t m id = (x : ℤ) → lookup t id ≡ Some x → entry_of m id ≡ Some 
 abbrev pub LeastDiffering : Table → ParameterMap → ℕ → Type 0
 LeastDiffering t m id = (Stands t m id → ⊥) × ((smaller : ℕ) → smaller < id → Stands t m smaller)
 
--- every entry stands and the answer is 0, or it is 15 with the least id
-abbrev pub LeastCarried : Table → ParameterMap → Matched → Type 0
-LeastCarried t m r =
-    (((id : ℕ) → Stands t m id) × (r ≡ record { refusal = 0; id = 0 })) ⊎ (LeastDiffering t m r.id × (r.refusal ≡ entry_differs))
+-- every entry stands, or it is 15 with the least id
+abbrev pub LeastCarried : Table → ParameterMap → Result ⊤ Mismatch → Type 0
+LeastCarried t m r = MatchResult r (λ _. (id : ℕ) → Stands t m id) (λ e. LeastDiffering t m e.id)

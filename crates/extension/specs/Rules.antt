@@ -1,15 +1,23 @@
 -- The rules of an update from one pass over them. This is the code's shape and need not be believed: what the calls mean is `update_of` and
 -- `disables` (Update.antt).
 -- Assumes nothing.
-use Rattle.std.specs.Prelude.{ℕ, ◌≡◌, List, eqb}
-use Rattle.extension.specs.declared.section.Parsed.{Parsed}
+use Rattle.std.specs.Prelude.{ℕ, List, eqb, Result, Ok}
+use Rattle.codec.specs.declared.refusal.Refusal.{Refusal}
+use Rattle.codec.specs.Check.{and_then}
+use Rattle.extension.specs.declared.section.Section.{Section}
 use Rattle.extension.specs.declared.update.Rules.{Rules}
 use Rattle.extension.specs.Section.{section_items, any}
 use Rattle.extension.specs.Mandatory.{mandatory_rule}
 use Rattle.extension.specs.Update.{read_rule}
 
--- the section, and, if it was read, whether one of its rules is mandatory, and whether a certain rule is among them
-pub record RulesAre (s : List ℕ) (rule : ℕ) (x : Parsed) (r : Rules) : Type 0 where
-  pub parsed : r.parsed ≡ x
-  pub mandatory : x.refusal ≡ 0 → r.mandatory ≡ any mandatory_rule (section_items (read_rule s) x.section)
-  pub listed : x.refusal ≡ 0 → r.listed ≡ any (eqb rule) (section_items (read_rule s) x.section)
+-- the section, whether one of its rules is mandatory, and whether a certain rule is among them
+unfoldable pub surveyed : List ℕ → ℕ → Section → Rules
+surveyed s rule x =
+    record {
+      section = x;
+      mandatory = any mandatory_rule (section_items (read_rule s) x);
+      listed = any (eqb rule) (section_items (read_rule s) x);
+    }
+
+unfoldable pub rules_of : List ℕ → ℕ → Result Section Refusal → Result Rules Refusal
+rules_of s rule x = and_then x (λ y. Ok (surveyed s rule y))

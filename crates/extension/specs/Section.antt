@@ -1,18 +1,19 @@
 -- A section: a number of items that stand one after another in bytes. docs/RULES.md, "Extension body and match" and "Settings update".
 -- Assumes nothing.
-use Rattle.std.specs.Prelude.{ℕ, zero, suc, ◌-◌, ◌≤◌, Bool, false, ◌||◌, ◌≡◌, List, [], ◌∷◌, length, take, drop}
+use Rattle.std.specs.Prelude.{Result, Ok, Err, ℕ, zero, suc, ◌-◌, ◌≤◌, Bool, false, ◌||◌, ◌≡◌, List, [], ◌∷◌, length, take, drop}
 use Rattle.extension.specs.declared.section.Section.{Section}
-use Rattle.extension.specs.declared.section.Parsed.{Parsed}
+use Rattle.codec.specs.declared.refusal.Refusal.{Refusal}
+use Rattle.codec.specs.Check.{Check, passed}
 
--- what stands at a position: an item and the position after it, or the refusal's number
+-- what stands at a position: an item and the position after it, or the refusal
 pub data Reading (A : Type 0) : Type 0 where
   got : A → ℕ → Reading A
-  bad : ℕ → Reading A
+  bad : Refusal → Reading A
 
--- items one after another; then the position after the last, or the number of the refusal that the next one met
+-- items one after another; then the position after the last, or the refusal that the next one met
 pub data Listing (A : Type 0) : Type 0 where
   done : ℕ → Listing A
-  stop : ℕ → Listing A
+  stop : Refusal → Listing A
   item : A → Listing A → Listing A
 
 unfoldable pub after : {A : Type 0} → Reading A → (ℕ → Listing A) → Listing A
@@ -30,11 +31,11 @@ items (done at) = []
 items (stop e) = []
 items (item a l) = a ∷ items l
 
--- the refusal's number, 0 where all were read
-unfoldable pub refusal_of : {A : Type 0} → Listing A → ℕ
-refusal_of (done at) = 0
-refusal_of (stop e) = e
-refusal_of (item a l) = refusal_of l
+-- whether all were read
+unfoldable pub all_read : {A : Type 0} → Listing A → Check
+all_read (done at) = passed
+all_read (stop e) = Err e
+all_read (item a l) = all_read l
 
 abbrev pub section : ℕ → ℕ → ℕ → Section
 section n begin end = record { count = n; begin = begin; end = end }
@@ -42,13 +43,10 @@ section n begin end = record { count = n; begin = begin; end = end }
 abbrev pub no_section : Section
 no_section = section 0 0 0
 
-abbrev pub refused_section : ℕ → Parsed
-refused_section e = record { refusal = e; section = no_section }
-
 -- n items that begin at a position, once they are read: where they end, or the refusal
-unfoldable pub closed : {A : Type 0} → ℕ → ℕ → Listing A → Parsed
-closed n begin (done end) = record { refusal = 0; section = section n begin end }
-closed n begin (stop e) = refused_section e
+unfoldable pub closed : {A : Type 0} → ℕ → ℕ → Listing A → Result Section Refusal
+closed n begin (done end) = Ok (section n begin end)
+closed n begin (stop e) = Err e
 closed n begin (item a l) = closed n begin l
 
 -- the items of a section

@@ -4,9 +4,9 @@ ghost use Rattle.extension.specs.Section.{listing, closed, section_items, any, P
 ghost use Rattle.extension.specs.Pack.{BodyAgain};
 ghost use Rattle.extension.specs.Body.{field_at, read_field, extension_of, header_id, body_field, field_value, update_key, parameter_key, update_in, proposed_update, wrong_size, wrong_parameter, check_body};
 
-use crate::section;
-use crate::section::{Parsed, Section, Span};
-use codec::{refusal, vlq};
+use crate::section::{Section, Span};
+use codec::refusal::Refusal;
+use codec::vlq;
 
 // The most bytes that a body or an update has.
 pub const INPUT_MOST: usize = 65536;
@@ -27,47 +27,37 @@ pub struct FieldPlace {
     pub end: usize,
 }
 
-#[derive(Clone, Copy)]
-pub enum FieldAt {
-    HasField(FieldPlace),
-    NoField(u8),
-}
-
-// How many fields a body has, and where they begin and end.
-pub fn parse_extension_bytes(body: &[u8]) -> Parsed
+// How many fields a body has, and where they begin and end; or 22, 1 to 5.
+pub fn parse_extension_bytes(body: &[u8]) -> Result<Section, Refusal>
     ensures value { result ≡ extension_of body.now }
-    ensures again { BodyAgain body.now result.section }
+    ensures again { BodyAgain body.now result }
 {
     if INPUT_MOST < body.len() {
-        return section::refused(refusal::INPUT_LONG);
+        return Err(Refusal::InputLong);
     }
     if body.len() < HEADER_ID_SIZE {
-        return section::refused(refusal::BODY_SHORT);
+        return Err(Refusal::BodyShort);
     }
-    match vlq::read_u32(body, HEADER_ID_SIZE) {
-        Some(m) => fields_section(body, m.value as u32, m.next),
-        None => section::refused(refusal::COUNT_UNREADABLE),
-    }
+    let m = vlq::read_u32(body, HEADER_ID_SIZE).ok_or(Refusal::CountUnreadable)?;
+    fields_section(body, m.value as u32, m.next)
 }
 
 // The id of the header that a body belongs to, as the part of the body that holds it; the empty part where the body is refused.
 pub fn header_id(body: &[u8]) -> &[u8]
     ensures { result.now ≡ header_id body.now }
 {
-    let x = parse_extension_bytes(body);
-    let e = x.refusal;
-    if e != 0 {
-        return &body[..0];
+    match parse_extension_bytes(body) {
+        Ok(_) => &body[..HEADER_ID_SIZE],
+        Err(_) => &body[..0],
     }
-    &body[..HEADER_ID_SIZE]
 }
 
 // What a reader meets at a position of a body.
-pub fn field_at(body: &[u8], at: usize) -> FieldAt
+pub fn field_at(body: &[u8], at: usize) -> Result<FieldPlace, Refusal>
     ensures { result ≡ body_field body.now at }
 {
     if INPUT_MOST < body.len() {
-        return FieldAt::NoField(refusal::INPUT_LONG);
+        return Err(Refusal::InputLong);
     }
     read_field(body, at)
 }
@@ -77,12 +67,8 @@ pub fn field_value(body: &[u8], at: usize) -> &[u8]
     ensures { result.now ≡ field_value body.now at }
 {
     match field_at(body, at) {
-        FieldAt::HasField(f) => {
-            let start = f.start;
-            let end = f.end;
-            &body[start..end]
-        }
-        FieldAt::NoField(_) => &body[..0],
+        Ok(f) => &body[f.start..f.end],
+        Err(_) => &body[..0],
     }
 }
 
@@ -90,43 +76,45 @@ pub fn field_value(body: &[u8], at: usize) -> &[u8]
 pub fn extract_disabling_rules_from_kv(body: &[u8]) -> &[u8]
     ensures { result.now ≡ proposed_update body.now }
 {
-    let x = parse_extension_bytes(body);
-    let found = find_update(body, x.section);
-    let start = found.start;
-    let end = found.end;
-    &body[start..end]
+    match parse_extension_bytes(body) {
+        Ok(fields) => {
+            let found = find_update(body, fields);
+            &body[found.start..found.end]
+        }
+        Err(_) => &body[..0],
+    }
 }
 
 // As parse_extension_bytes, and then 6 where a parameter's value is not four bytes.
-pub fn check_body(body: &[u8]) -> Parsed
+pub fn check_body(body: &[u8]) -> Result<Section, Refusal>
     ensures { result ≡ check_body body.now }
 {
-    let x = parse_extension_bytes(body);
-    if any_wrong_size(body, x.section) {
-        return section::refused(refusal::PARAMETER_SIZE);
+    let fields = parse_extension_bytes(body)?;
+    if any_wrong_size(body, fields) {
+        return Err(Refusal::ParameterSize);
     }
-    x
+    Ok(fields)
 }
 
 // The field at a position.
-pub(crate) fn read_field(body: &[u8], at: usize) -> FieldAt
+pub(crate) fn read_field(body: &[u8], at: usize) -> Result<FieldPlace, Refusal>
     ensures { result ≡ field_at body.now at }
 {
     if body.len() < at {
-        return FieldAt::NoField(refusal::FIELD_HEADER_CUT);
+        return Err(Refusal::FieldHeaderCut);
     }
     let room = body.len() - at;
     if room < 3 {
-        return FieldAt::NoField(refusal::FIELD_HEADER_CUT);
+        return Err(Refusal::FieldHeaderCut);
     }
     let n = body[at + 2] as usize;
     if VALUE_MOST < n {
-        return FieldAt::NoField(refusal::VALUE_LONG);
+        return Err(Refusal::ValueLong);
     }
     if room - 3 < n {
-        return FieldAt::NoField(refusal::VALUE_CUT);
+        return Err(Refusal::ValueCut);
     }
-    FieldAt::HasField(FieldPlace {
+    Ok(FieldPlace {
         key0: body[at],
         key1: body[at + 1],
         start: at + 3,
@@ -135,23 +123,14 @@ pub(crate) fn read_field(body: &[u8], at: usize) -> FieldAt
 }
 
 // The section of count fields from a position on.
-fn fields_section(body: &[u8], count: u32, begin: usize) -> Parsed
+fn fields_section(body: &[u8], count: u32, begin: usize) -> Result<Section, Refusal>
     ensures { result ≡ closed count begin (listing (read_field body.now) count begin) }
 {
-    let mut at = begin;
-    let mut left = count;
-    while 0 < left {
-        match read_field(body, at) {
-            FieldAt::HasField(f) => {
-                at = f.end;
-            }
-            FieldAt::NoField(e) => {
-                return section::refused(e);
-            }
-        }
-        left -= 1;
+    let mut end = begin;
+    for _ in 0..count {
+        end = read_field(body, end)?.end;
     }
-    section::read(count, begin, at)
+    Ok(Section { count, begin, end })
 }
 
 // Whether a key holds the proposed settings update.
@@ -172,10 +151,9 @@ fn find_update(body: &[u8], fields: Section) -> Span
     ensures { PartIs body.now result.start result.end (update_in (section_items (read_field body.now) fields)) }
 {
     let mut at = fields.begin;
-    let mut left = fields.count;
-    while 0 < left {
+    for _ in 0..fields.count {
         match read_field(body, at) {
-            FieldAt::HasField(f) => {
+            Ok(f) => {
                 if update_key(f.key0, f.key1) {
                     return Span {
                         start: f.start,
@@ -184,11 +162,8 @@ fn find_update(body: &[u8], fields: Section) -> Span
                 }
                 at = f.end;
             }
-            FieldAt::NoField(_) => {
-                return Span { start: 0, end: 0 };
-            }
+            Err(_) => break,
         }
-        left -= 1;
     }
     Span { start: 0, end: 0 }
 }
@@ -204,21 +179,16 @@ fn any_wrong_size(body: &[u8], fields: Section) -> bool
     ensures { result ≡ any wrong_parameter (section_items (read_field body.now) fields) }
 {
     let mut at = fields.begin;
-    let mut left = fields.count;
-    while 0 < left {
+    for _ in 0..fields.count {
         match read_field(body, at) {
-            FieldAt::HasField(f) => {
-                let n = f.end - f.start;
-                if wrong_size(f.key0, f.key1, n) {
+            Ok(f) => {
+                if wrong_size(f.key0, f.key1, f.end - f.start) {
                     return true;
                 }
                 at = f.end;
             }
-            FieldAt::NoField(_) => {
-                return false;
-            }
+            Err(_) => break,
         }
-        left -= 1;
     }
     false
 }

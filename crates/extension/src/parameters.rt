@@ -2,12 +2,12 @@
 ghost use Rattle.std.specs.Prelude.{◌≡◌, not, [], ◌∷◌};
 ghost use Rattle.extension.specs.Section.{section_items};
 ghost use Rattle.extension.specs.Body.{read_field};
-ghost use Rattle.extension.specs.Parameters.{no_parameters, entry_of, store, number_in, taken, parameters_in, parameters_of, agrees, first_differing, table_ids, check_parameters, LeastCarried};
+ghost use Rattle.extension.specs.Parameters.{no_parameters, entry_of, store, number_in, taken, parameters_in, parameters_of, agrees, check_parameters, LeastCarried};
 
 use crate::body;
-use crate::body::{FieldAt, FieldPlace};
 use crate::section::Section;
-use codec::{big_endian, refusal};
+use codec::big_endian;
+use codec::refusal::Refusal;
 use voting::table::{Table, Value};
 
 // One entry for each id byte.
@@ -16,17 +16,9 @@ pub struct ParameterMap {
     pub entries: [Value; 256],
 }
 
-// A refusal's number, or 0; refused, every entry is absent.
-#[derive(Clone, Copy)]
-pub struct Parameters {
-    pub refusal: u8,
-    pub map: ParameterMap,
-}
-
-// 15 and the least id whose entry is missing or different, or 0 and 0.
-#[derive(Clone, Copy)]
-pub struct Matched {
-    pub refusal: u8,
+// 15, with the least id whose entry is missing or different.
+#[derive(Clone, Copy, Debug, PartialEq, Eq)]
+pub struct Mismatch {
     pub id: u8,
 }
 
@@ -48,15 +40,12 @@ impl ParameterMap {
     }
 }
 
-// The parameters of a body.
-pub fn parse_parameters_from_kv(body: &[u8]) -> Parameters
+// The parameters of a body; or 22, 1 to 6.
+pub fn parse_parameters_from_kv(body: &[u8]) -> Result<ParameterMap, Refusal>
     ensures { result ≡ parameters_of body.now }
 {
-    let x = body::check_body(body);
-    Parameters {
-        refusal: x.refusal,
-        map: parameters_in(body, x.section),
-    }
+    let fields = body::check_body(body)?;
+    Ok(parameters_in(body, fields))
 }
 
 pub fn no_parameters() -> ParameterMap
@@ -72,21 +61,14 @@ fn parameters_in(body: &[u8], fields: Section) -> ParameterMap
 {
     let mut m = no_parameters();
     let mut at = fields.begin;
-    let mut left = fields.count;
-    while 0 < left {
+    for _ in 0..fields.count {
         match body::read_field(body, at) {
-            FieldAt::HasField(f) => {
-                let start = f.start;
-                let end = f.end;
-                let v = &body[start..end];
-                m = take_field(m, f.key0, f.key1, v);
-                at = end;
+            Ok(f) => {
+                m = take_field(m, f.key0, f.key1, &body[f.start..f.end]);
+                at = f.end;
             }
-            FieldAt::NoField(_) => {
-                return m;
-            }
+            Err(_) => break,
         }
-        left -= 1;
     }
     m
 }
@@ -112,34 +94,16 @@ pub fn number_in(a: u8, b: u8, c: u8, d: u8) -> Value
 }
 
 // 15 where a computed entry is missing or different among the parameters, with the least such id; others are not looked at.
-pub fn check_parameters_v6(expected: Table, parsed: ParameterMap) -> Matched
+pub fn check_parameters_v6(expected: Table, parsed: ParameterMap) -> Result<(), Mismatch>
     ensures value { result ≡ check_parameters expected parsed }
     ensures least { LeastCarried expected parsed result }
 {
-    let id = first_differing(expected, parsed);
-    if id == 0 {
-        return Matched { refusal: 0, id: 0 };
-    }
-    Matched {
-        refusal: refusal::ENTRY_DIFFERS,
-        id,
-    }
-}
-
-fn first_differing(expected: Table, parsed: ParameterMap) -> u8
-    ensures { result ≡ first_differing expected parsed table_ids }
-{
-    let mut k: usize = 0;
-    while k < 12 {
-        let id = TABLE_IDS[k];
-        let a = expected.get(id);
-        let b = parsed.get(id);
-        if differs(a, b) {
-            return id;
+    for id in TABLE_IDS {
+        if differs(expected.get(id), parsed.get(id)) {
+            return Err(Mismatch { id });
         }
-        k += 1;
     }
-    0
+    Ok(())
 }
 
 // Whether a computed entry is missing or different; an absent one asks nothing.

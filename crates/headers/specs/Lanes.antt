@@ -1,11 +1,12 @@
 -- The shape of the code, which need not be believed: which header of sixteen a lane holds, and what the functions of `lanes` say of it.
 -- Assumes nothing.
 use Rattle.std.specs.Prelude.{ℕ, zero, suc, ◌+◌, ◌*◌, ◌%◌, ◌<◌, ◌≡◌, List, [], ◌∷◌, get_or}
+use Rattle.codec.specs.Check.{passed}
 use Rattle.voting.specs.Header.{check_header_votes}
 
 -- the header whose bytes begin at a position is legal
 abbrev pub Legal : List ℕ → ℕ → Type 0
-Legal s at = check_header_votes (get_or s at 0 ∷ get_or s (at + 1) 0 ∷ get_or s (at + 2) 0 ∷ []) ≡ 0
+Legal s at = check_header_votes (get_or s at 0 ∷ get_or s (at + 1) 0 ∷ get_or s (at + 2) 0 ∷ []) ≡ passed
 
 -- so is the one that three masks choose
 pub record Lane (s : List ℕ) (at m n o : ℕ) : Type 0 where

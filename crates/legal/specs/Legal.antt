@@ -1,6 +1,7 @@
 -- Three vote bytes as a number, every legal one, and the next above. docs/RULES.md, "Every legal header".
 -- Assumes nothing.
-use Rattle.std.specs.Prelude.{ℕ, zero, suc, ◌+◌, ◌*◌, ◌/◌, ◌%◌, ◌≤◌, ◌<◌, ◌≡◌, Bool, cond, List, [], ◌∷◌, ltb, eqb}
+use Rattle.std.specs.Prelude.{is_ok, ℕ, zero, suc, ◌+◌, ◌*◌, ◌/◌, ◌%◌, ◌≤◌, ◌<◌, ◌≡◌, Bool, cond, List, [], ◌∷◌, ltb}
+use Rattle.codec.specs.Check.{passed}
 use Rattle.voting.specs.Header.{check_header_votes}
 use Rattle.legal.specs.declared.next.NextVotes.{NextVotes}
 use Rattle.legal.specs.declared.next.NextVotes.TheVariants.{Votes, Nothing}
@@ -14,7 +15,7 @@ bytes_of n = n / 65536 ∷ n / 256 % 256 ∷ n % 256 ∷ []
 
 -- a number is legal if the header check accepts its bytes
 unfoldable pub legal : ℕ → Bool
-legal n = eqb (check_header_votes (bytes_of n)) 0
+legal n = is_ok (check_header_votes (bytes_of n))
 
 -- k numbers from n on
 unfoldable pub numbers : ℕ → ℕ → List ℕ
@@ -49,7 +50,7 @@ next_legal_votes a b c = first_of (kept (ltb (number a b c)) all_legal)
 -- ---- what the answer means, without a list
 
 abbrev pub Legal : ℕ → ℕ → ℕ → Type 0
-Legal a b c = check_header_votes (a ∷ b ∷ c ∷ []) ≡ 0
+Legal a b c = check_header_votes (a ∷ b ∷ c ∷ []) ≡ passed
 
 -- a statement of every legal header
 abbrev pub EveryLegal : (ℕ → Type 0) → Type 0

@@ -1,7 +1,8 @@
 -- Every legal number in print, and the same in pieces. docs/RULES.md, "Every legal header".
 -- Assumes nothing.
-use Rattle.std.specs.Prelude.{ℕ, ◌-◌, ◌≤◌, ◌<◌, ◌≡◌, cond, List, [], ◌∷◌, ◌++◌, ltb, leb, length}
-use Rattle.codec.specs.Refusal.{output_short}
+use Rattle.std.specs.Prelude.{Result, Ok, Err, ℕ, ◌-◌, ◌≤◌, ◌<◌, ◌≡◌, cond, List, [], ◌∷◌, ◌++◌, ltb, leb, length}
+use Rattle.codec.specs.declared.refusal.Refusal.TheVariants.{OutputShort}
+use Rattle.codec.specs.declared.refusal.Refusal.{Refusal}
 use Rattle.codec.specs.Decimal.{digits, newline}
 use Rattle.legal.specs.declared.next.NextVotes.{NextVotes}
 use Rattle.legal.specs.declared.next.NextVotes.TheVariants.{Votes, Nothing}
@@ -48,8 +49,8 @@ text_of at room = lines_of (fitting room (rest_of at))
 unfoldable pub next_of : NextVotes → ℕ → NextVotes
 next_of at room = cond (ltb room line_most) at (first_of (left_over room (rest_of at)))
 
-unfoldable pub fill_of : NextVotes → ℕ → Filled
-fill_of at room = record { refusal = cond (ltb room line_most) output_short 0; next = next_of at room; wrote = length (text_of at room) }
+unfoldable pub fill_of : NextVotes → ℕ → Result Filled Refusal
+fill_of at room = cond (ltb room line_most) (Err OutputShort) (Ok (record { next = next_of at room; wrote = length (text_of at room) }))
 
 -- ---- pieces one after another
 

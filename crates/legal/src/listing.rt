@@ -1,5 +1,5 @@
 // Every legal number in print, a number a line, in pieces. docs/RULES.md, "Every legal header".
-ghost use Rattle.std.specs.Prelude.{◌≡◌, ◌+◌, ◌<◌, ◌≤◌, length};
+ghost use Rattle.std.specs.Prelude.{IfOk, ◌≡◌, ◌+◌, ◌<◌, ◌≤◌, length};
 ghost use Rattle.codec.specs.Output.{written};
 ghost use Rattle.codec.specs.Put.{Put};
 ghost use Rattle.legal.specs.declared.next.NextVotes.TheVariants.{Votes};
@@ -9,17 +9,17 @@ ghost use Rattle.legal.specs.Listing.{line_of, line_most, text_of, fill_of, Piec
 
 use crate::next;
 use crate::next::NextVotes;
-use codec::{decimal, output, refusal};
+use codec::refusal::Refusal;
+use codec::{decimal, output};
 
 // No line has more bytes.
 pub const LINE_MOST: usize = 9;
 
 const NEWLINE: u8 = 10;
 
-// 21 or 0, the position after the lines, and how many bytes of text stand at the start of the buffer.
+// The position after the lines, and how many bytes of text stand at the start of the buffer.
 #[derive(Clone, Copy)]
 pub struct Filled {
-    pub refusal: u8,
     pub next: NextVotes,
     pub wrote: usize,
 }
@@ -32,40 +32,34 @@ pub fn begin() -> NextVotes
     NextVotes::Votes(0, 0, 0)
 }
 
-// Fills a buffer with the lines of the legal numbers from a position on, as long as the longest line has room.
-pub fn fill(at: NextVotes, out: &mut [u8]) -> Filled
+// Fills a buffer with the lines of the legal numbers from a position on, as long as the longest line has room; or 21.
+pub fn fill(at: NextVotes, out: &mut [u8]) -> Result<Filled, Refusal>
     ensures value { result ≡ fill_of at (length out.old) }
     ensures lines { out.new ≡ written (text_of at (length out.old)) out.old }
-    ensures inside { result.wrote ≤ length out.old }
+    ensures inside { IfOk result (λ filled. filled.wrote ≤ length out.old) }
     ensures goes_on { GoesOn at (length out.old) }
 {
     if out.len() < LINE_MOST {
-        return Filled {
-            refusal: refusal::OUTPUT_SHORT,
-            next: at,
-            wrote: 0,
-        };
+        return Err(Refusal::OutputShort);
     }
     let mut n = next::first_from(position_of(at));
     let mut wrote: usize = 0;
     while n < next::TOTAL {
         if out.len() - wrote < LINE_MOST {
-            return stopped(n, wrote);
+            return Ok(stopped(n, wrote));
         }
         wrote = put_line(out, wrote, n);
         n = next::first_from(n + 1);
     }
-    stopped(n, wrote)
+    Ok(stopped(n, wrote))
 }
 
 // The lines so far, and what is next.
 fn stopped(n: u32, wrote: usize) -> Filled
-    ensures { result ≡ record { refusal = 0; next = votes_at n; wrote = wrote } }
+    ensures { result ≡ record { next = votes_at n; wrote = wrote } }
 {
-    let next = next::votes_of(n);
     Filled {
-        refusal: 0,
-        next,
+        next: next::votes_of(n),
         wrote,
     }
 }

@@ -1,6 +1,9 @@
 -- The listing, handed over piece by piece.
 -- Assumes nothing.
-use Rattle.std.proofs.Common.{◌≡◌, sym, ap, ◌∙◌, Bool, true, false, true≢false, List, [], ◌++◌, append_assoc, append-nil, ℕ, ◌-◌, ◌≤◌, ◌<◌, arith, length, take, subst}
+use Rattle.std.proofs.Common.{◌≡◌, sym, ap, ◌∙◌, Bool, true, false, true≢false, cond, ltb, le-ltb, List, [], ◌++◌, append_assoc, append-nil, ℕ, ◌-◌, ◌≤◌, ◌<◌, arith, length, take, subst}
+use Rattle.std.specs.Prelude.{Result, Ok, Err, IsOk}
+use Rattle.codec.specs.declared.refusal.Refusal.{Refusal}
+use Rattle.codec.specs.declared.refusal.Refusal.TheVariants.{OutputShort}
 use Rattle.codec.specs.Output.{written}
 use Rattle.ports.specs.declared.Output.{Output}
 use Rattle.ports.specs.Ports.{unwritten, wrote, sent, wrote_on, wrote_none}
@@ -21,16 +24,27 @@ printing-starts T to at o p q t = record {
   took = t;
 }
 
+-- a buffer with room for a line is filled
+pub fills : (at : NextVotes) (room : ℕ) {r : Result Filled Refusal} → r ≡ fill_of at room → line_most ≤ room → IsOk r
+unfolding fill_of
+fills at room e h = rw (e, le-ltb room line_most h)
+
 -- a piece that was filled in
-module _ (at : NextVotes) (out : List ℕ) (f : Filled) (is-filled : f ≡ fill_of at (length out)) (out' : List ℕ)
+module _ (at : NextVotes) (out : List ℕ) (f : Filled) (is-filled : Ok f ≡ fill_of at (length out)) (out' : List ℕ)
     (lines : out' ≡ written (text_of at (length out)) out) where
-  next-is : f.next ≡ next_of at (length out)
+  piece-is : f ≡ record { next = next_of at (length out); wrote = length (text_of at (length out)) }
   unfolding fill_of
-  next-is = ap (λ (x : Filled). x.next) is-filled
+  piece-is = go (ltb (length out) line_most) is-filled
+    where
+      go : (t : Bool) → Ok f ≡ cond t (Err OutputShort) (Ok (record { next = next_of at (length out); wrote = length (text_of at (length out)) })) → f ≡ record { next = next_of at (length out); wrote = length (text_of at (length out)) }
+      go true e = cc
+      go false e = cc
+
+  next-is : f.next ≡ next_of at (length out)
+  next-is = ap (λ (x : Filled). x.next) piece-is
 
   wrote-is : f.wrote ≡ length (text_of at (length out))
-  unfolding fill_of
-  wrote-is = ap (λ (x : Filled). x.wrote) is-filled
+  wrote-is = ap (λ (x : Filled). x.wrote) piece-is
 
   -- and handed over, behind what was
   module _ (T : List ℕ → Type 0) (to : ℕ) (o : Output) (g : Printing T to at o) (failed : Bool) (o' : Output) (s : o' ≡ sent failed (wrote o (take (f.wrote - 0) out')))

@@ -34,7 +34,7 @@ fn print_all<W: Write>(rt: &impl Eprint, sink: &mut W, to: u32, out: &mut [u8]) 
     let mut at = listing::begin();
     let mut handed = ports::no_output(to);
     loop {
-        let filled = listing::fill(at, out);
+        let filled = listing::fill(at, out).unwrap();
         let n = filled.wrote;
         let sent = ports::send(rt, sink, handed, &out[0..n]);
         handed = sent.output;

@@ -1,5 +1,6 @@
 -- The calls, and a text of a buffer that is handed over. Assumes nothing.
 use Rattle.std.proofs.Common.{◌≡◌, ℕ, ◌-◌, ◌≤◌, Bool, true, false, List, ◌++◌, length, take, drop, sym, refl, ap, ◌∙◌, subst, arith, length-append, take_at, ne_eqb}
+use Rattle.ports.specs.declared.End.TheVariants.{Met, Broken}
 use Rattle.ports.specs.declared.Input.{Input}
 use Rattle.ports.specs.declared.Output.{Output}
 use Rattle.ports.specs.declared.Came.{Came}
@@ -14,11 +15,11 @@ module _ (i : Input) (buf : List ℕ) (c : Came) where
   unfolding came
   received n q some h = subst (Received i buf) (sym q) (h.0, rw (ne_eqb n 0 some) (read_is i n (take n buf) h.1))
 
-  pub end-met : c ≡ record { input = stopped_by i 1; count = 0; failed = false } → Received i buf c
+  pub end-met : c ≡ record { input = stopped_by i Met; count = 0; failed = false } → Received i buf c
   unfolding came
   end-met q = subst (Received i buf) (sym q) (omega arith, ended_is i)
 
-  pub read-failed : c ≡ record { input = stopped_by i 2; count = 0; failed = true } → Received i buf c
+  pub read-failed : c ≡ record { input = stopped_by i Broken; count = 0; failed = true } → Received i buf c
   unfolding came
   read-failed q = subst (Received i buf) (sym q) (omega arith, broken-is i)
 

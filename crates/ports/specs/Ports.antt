@@ -4,12 +4,14 @@
 -- Assumes nothing.
 use Rattle.std.specs.Prelude.{◌≡◌, ℕ, ◌+◌, ◌%◌, ◌^◌, Bool, true, false, cond, List, [], ◌++◌, length, ◌==◌, refl}
 use Rattle.std.proofs.Common.{ap, length-append, arith}
+use Rattle.ports.specs.declared.End.{End}
+use Rattle.ports.specs.declared.End.TheVariants.{Open, Met, Broken}
 use Rattle.ports.specs.declared.Input.{Input}
 use Rattle.ports.specs.declared.Output.{Output}
 
 -- nothing was read of a descriptor, nothing was handed to it
 pub unread : ℕ → Input
-unread fd = record { descriptor = fd; bytes = 0; end = 0 }
+unread fd = record { descriptor = fd; bytes = 0; end = Open }
 
 pub unwritten : ℕ → Output
 unwritten fd = record { descriptor = fd; bytes = 0; cut = false }
@@ -28,14 +30,14 @@ pub wrote : Output → List ℕ → Output
 wrote o text = handed_by o (length text) o.cut
 
 -- the end of the input was met; a read failed; a write failed, of which nobody knows how much it wrote
-abbrev pub stopped_by : Input → ℕ → Input
+abbrev pub stopped_by : Input → End → Input
 stopped_by i end = record { descriptor = i.descriptor; bytes = i.bytes; end = end }
 
 pub ended : Input → Input
-ended i = stopped_by i 1
+ended i = stopped_by i Met
 
 pub broken : Input → Input
-broken i = stopped_by i 2
+broken i = stopped_by i Broken
 
 pub cut : Output → Output
 cut o = record { descriptor = o.descriptor; bytes = o.bytes; cut = true }
@@ -71,7 +73,7 @@ unfolding wrote unwritten
 wrote_none fd = refl
 
 -- for the proofs of this crate alone: cited elsewhere, they would let a text be exchanged for another of its length, or an end be claimed
-pub unread-is : (fd : ℕ) → record { descriptor = fd; bytes = 0; end = 0 } ≡ unread fd
+pub unread-is : (fd : ℕ) → record { descriptor = fd; bytes = 0; end = Open } ≡ unread fd
 unfolding unread
 unread-is fd = refl
 
@@ -83,11 +85,11 @@ pub read_is : (i : Input) (n : ℕ) (bytes : List ℕ) → n ≡ length bytes �
 unfolding read
 read_is i n bytes e = ap (read_by i) e
 
-pub ended_is : (i : Input) → stopped_by i 1 ≡ ended i
+pub ended_is : (i : Input) → stopped_by i Met ≡ ended i
 unfolding ended
 ended_is i = refl
 
-pub broken-is : (i : Input) → stopped_by i 2 ≡ broken i
+pub broken-is : (i : Input) → stopped_by i Broken ≡ broken i
 unfolding broken
 broken-is i = refl
 

@@ -18,7 +18,7 @@ use std::io::{Eprint, ErrorKind, Read, Write};
 pub struct Input {
     descriptor: u32,
     bytes: u64,
-    end: u8,
+    end: End,
 }
 
 // All that was handed over so far: its number of bytes, modulo 2^64; and whether a write failed.
@@ -30,11 +30,12 @@ pub struct Output {
 }
 
 // How an input ended: not yet, at its end, or by a read that failed.
-const OPEN: u8 = 0;
-
-const ENDED: u8 = 1;
-
-const BROKEN: u8 = 2;
+#[derive(Clone, Copy, Debug, PartialEq, Eq)]
+pub enum End {
+    Open,
+    Met,
+    Broken,
+}
 
 // How many bytes stand at the start of the buffer, 0 at the end of the input; and whether the read failed.
 #[derive(Clone, Copy)]
@@ -56,7 +57,7 @@ pub fn no_input(descriptor: u32) -> Input
     Input {
         descriptor,
         bytes: 0,
-        end: OPEN,
+        end: End::Open,
     }
 }
 
@@ -79,16 +80,16 @@ pub fn receive<R: Read>(rt: &impl Eprint, source: &mut R, input: Input, buf: &mu
     ensures end { result.failed ≡ false → result.count ≡ 0 → 0 < length buf.old → IsAtEnd (R.remaining source.new) }
 {
     match read_on(source, buf) {
-        Ok(0) => stopped(input, ENDED, false),
+        Ok(0) => stopped(input, End::Met, false),
         Ok(n) => reached(input, n),
         Err(error) => {
             tell(rt, "a read failed", error);
-            stopped(input, BROKEN, true)
+            stopped(input, End::Broken, true)
         }
     }
 }
 
-fn stopped(input: Input, end: u8, failed: bool) -> Came
+fn stopped(input: Input, end: End, failed: bool) -> Came
     ensures { result ≡ record { input = stopped_by input end; count = 0; failed = failed } }
 {
     Came {

@@ -1,22 +1,24 @@
 -- The replay between two descriptors, by the ways through its code: every line is handed over.
 -- Assumes nothing.
-use Rattle.std.proofs.Common.{◌≡◌, refl, sym, ap, subst, ◌∙◌, Bool, true, false, cond, ◌||◌, true≢false, List, [], ◌++◌, append_assoc, append-nil, ℕ, zero, suc, ◌+◌, ◌-◌, ◌≤◌, ◌<◌, min, arith, ltb, eqb, length, take, drop, length-append, length-drop, drop_of_length-le, Option, None, Some, IfSome}
+use Rattle.std.proofs.Common.{◌≡◌, refl, sym, ap, subst, ◌∙◌, Bool, true, false, cond, ◌||◌, true≢false, List, [], ◌++◌, append_assoc, append-nil, ℕ, zero, suc, ◌+◌, ◌-◌, ◌≤◌, ◌<◌, min, arith, ltb, eqb, length, take, drop, length-append, length-drop, drop_of_length-le, Option, None, Some, IfSome, Result, Ok, Err}
 use borrow.Author.Tests.{ltb-false, ne_eqb}
 use lib.Seq.{take_all, drop-drop, length-take-le}
 use Rattle.std.specs.Io.KnownBytes.{Appends, Consumes, IsAtEnd}
-use Rattle.codec.specs.Refusal.{output_short, record_malformed}
-use Rattle.codec.specs.declared.output.Wrote.{Wrote}
-use Rattle.codec.specs.declared.output.Wrote.TheVariants.{Bytes, Refused}
+use Rattle.std.specs.Result.{IsOk}
+use Rattle.codec.specs.declared.refusal.Refusal.{Refusal}
+use Rattle.codec.specs.declared.refusal.Refusal.TheVariants.{OutputShort, RecordMalformed}
+use Rattle.codec.specs.Refusal.{number}
+use Rattle.codec.specs.Check.{Check, passed, and_then}
 use Rattle.codec.specs.Output.{outcome, writes, written}
 use Rattle.voting.specs.Settings.{mainnet}
 use Rattle.ports.specs.declared.Input.{Input}
 use Rattle.ports.specs.declared.Output.{Output}
-use Rattle.ports.proofs.Laws.{text-inside, text-fits, text-sent}
+use Rattle.ports.proofs.Laws.{text-fits, text-sent}
 use Rattle.ports.specs.Ports.{unread, unwritten, read, ended, broken, came, wrote, sent, read-on, wrote_on, read_none, wrote_none}
 use Rattle.stream.specs.declared.run.Run.{Run}
 use Rattle.stream.specs.declared.run.Fed.{Fed}
-use Rattle.stream.specs.Lines.{head_line, line_most}
-use Rattle.stream.specs.Run.{begun, ahead, longest_record, Ready, After, feed_of, finish_of, fail_of, fed_of, Feeds}
+use Rattle.stream.specs.Lines.{head_line, end_line, line_most}
+use Rattle.stream.specs.Run.{begun, ahead, longest_record, too_short, Ready, ended as run_ended, After, stands, feed_of, last_by, last_of, finish_of, fail_of, fed_of, Feeds}
 use Rattle.stream.specs.Driven.{mainnet_start, replay_prints, Begins}
 use Rattle.stream.proofs.Laws.Added.{never, written_is, front-is}
 use Rattle.stream.proofs.Laws.Run.{ahead-over}
@@ -27,15 +29,15 @@ use Rattle.replay_io.specs.Replays.{Moves, IsEmpty, most, Feeding, Reading}
 -- ---- a text that was written into the buffer and is handed over
 
 -- the first line
-module _ (out : List ℕ) (h : line_most ≤ length out) (w : Wrote) (out' : List ℕ) (q : outcome w out' ≡ writes head_line out) where
+module _ (out : List ℕ) (h : line_most ≤ length out) (w : Result ℕ Refusal) (out' : List ℕ) (q : outcome w out' ≡ writes head_line out) where
   room : length head_line ≤ length out
   unfolding head_line
   room = omega (arith, h)
 
-  pub head_never : (e : ℕ) → w ≡ Refused e → ⊥
+  pub head_never : (e : Refusal) → w ≡ Err e → ⊥
   head_never = never head_line out room w out' q
 
-  module _ (n : ℕ) (r : w ≡ Bytes n) where
+  module _ (n : ℕ) (r : w ≡ Ok n) where
     pub head-inside : n ≤ length out
     head-inside = omega (arith, room, written_is head_line out room w out' q n r)
 
@@ -46,6 +48,26 @@ module _ (out : List ℕ) (h : line_most ≤ length out) (w : Wrote) (out' : Lis
 
     pub head-is : take (n - 0) out' ≡ head_line
     head-is = let z : n - 0 ≡ n = omega arith in ap (λ (k : ℕ). take k out') z ∙ front-is head_line out room w out' q n r
+
+-- the last line: a call that is refused writes nothing
+abbrev pub count : Result Fed Refusal → ℕ
+count (Ok fed) = fed.wrote
+count (Err e) = 0
+
+pub last-wrote : (r : Run) (cells : List ℕ) (k room : ℕ) (y : Result Fed Refusal) → y ≡ fed_of (last_of r cells k room) → count y ≡ length (last_of r cells k room).text
+unfolding last_of last_by
+last-wrote r cells k room y q = ap count q ∙ go (too_short r (length cells) room) r.over
+  where
+    line : After
+    line = record { check = passed; run = run_ended r; cells = cells; used = 0; text = end_line r.accepted k }
+
+    ends : Bool → Bool → After
+    ends short over = cond short (stands (Err OutputShort) r cells) (cond over (stands passed r cells) line)
+
+    go : (short over : Bool) → count (fed_of (ends short over)) ≡ length (ends short over).text
+    go true over = refl
+    go false true = refl
+    go false false = refl
 
 -- a bound by a length that stays
 pub still-above : (x m n : ℕ) → n ≡ m → x ≤ m → x ≤ n
@@ -62,7 +84,6 @@ module _ (T : List ℕ → Type 0) (run : Run) (cells piece : List ℕ) (output 
   feeding-none y t = record { text = []; is = λ to before e. e ∙ ap (wrote (unwritten to)) (sym (append-nil before)); goes_on = λ more. refl; ready = y; took = λ f. t }
 
   module _ (at : ℕ) (r : Run) (cells₁ : List ℕ) (o : Output) (g : Feeding T run cells piece output at r cells₁ false o) (out : List ℕ) (place : line_most ≤ length out)
-      (fed : Fed) (is-fed : fed ≡ fed_of (feed_of r cells₁ (rest piece at) (length out)))
       (x : Ready r cells₁ → line_most ≤ length out → Feeds r cells₁ (rest piece at) (length out) (feed_of r cells₁ (rest piece at) (length out))) where
     abbrev a : After
     a = feed_of r cells₁ (rest piece at) (length out)
@@ -73,18 +94,28 @@ module _ (T : List ℕ → Type 0) (run : Run) (cells piece : List ℕ) (output 
     p : Feeds r cells₁ (rest piece at) (length out) a
     p = x g.ready place
 
-    used-is : fed.used ≡ a.used
-    used-is = ap (λ (f : Fed). f.used) is-fed
+    abbrev told : Fed
+    told = record { run = a.run; used = a.used; wrote = length a.text }
 
-    pub feeding-moves : at < length piece → 0 < fed.used
-    feeding-moves h = let m = p.moves place (omega (arith, h, ap length rest-is, length-drop at piece)) in omega (arith, m, used-is)
+    -- the call is not refused
+    passes : fed_of a ≡ Ok told
+    passes = ap (λ (c : Check). and_then c (λ _. Ok told)) p.passes
 
-    pub feeding-inside : at ≤ length piece → at + fed.used ≤ length piece
-    feeding-inside h = omega (arith, h, p.inside, used-is, ap length rest-is, length-drop at piece)
+    pub feeding-passes : IsOk (fed_of a)
+    feeding-passes = subst IsOk (sym passes) refl
 
-    module _ (cells₂ : List ℕ) (is-cells : cells₂ ≡ a.cells) (out₂ : List ℕ) (is-out : out₂ ≡ written a.text out) where
-      pub feeding-wrote : fed.wrote ≤ length out₂
-      feeding-wrote = text-inside a.text out out₂ is-out fed.wrote (ap (λ (f : Fed). f.wrote) is-fed)
+    module _ (fed : Fed) (handed-back : fed_of a ≡ Ok fed) (cells₂ : List ℕ) (is-cells : cells₂ ≡ a.cells) (out₂ : List ℕ) (is-out : out₂ ≡ written a.text out) where
+      same_fed : {f g : Fed} → ◌≡◌ {A = Result Fed Refusal} (Ok f) (Ok g) → f ≡ g
+      same_fed q = cc
+
+      is-fed : fed ≡ told
+      is-fed = same_fed (sym handed-back ∙ passes)
+
+      used-is : fed.used ≡ a.used
+      used-is = ap (λ (f : Fed). f.used) is-fed
+
+      pub feeding-inside : at ≤ length piece → at + fed.used ≤ length piece
+      feeding-inside h = omega (arith, h, p.inside, used-is, ap length rest-is, length-drop at piece)
 
       pub feeding-on : (b : Bool) (o₂ : Output) → o₂ ≡ sent b (wrote o (take (fed.wrote - 0) out₂)) → (A T' : List ℕ → Type 0) → (b ≡ false → A (take (fed.wrote - 0) out₂)) → ((s u : List ℕ) → T s → A u → T' (s ++ u)) → Feeding T' run cells piece output (at + fed.used) fed.run cells₂ b o₂
       feeding-on b o₂ e A T' h join =
@@ -123,47 +154,44 @@ module _ (T : List ℕ → Type 0) (run : Run) (cells₀ piece : List ℕ) (outp
   pub going-starts : Ready run cells₀ × (line_most ≤ length out₀) → T [] → Going T run cells₀ piece output out₀ 0 run cells₀ output out₀
   going-starts h t = record { feeding = feeding-none T run cells₀ piece output h.0 t; inside = omega arith; room = h.1; cells-long = refl; out-long = refl }
 
-  module _ (at : ℕ) (r : Run) (cells : List ℕ) (o : Output) (out : List ℕ) (g : Going T run cells₀ piece output out₀ at r cells o out) (fed : Fed) (cells₂ out₂ : List ℕ)
-      (x : (fed ≡ fed_of (feed_of r cells (rest piece at) (length out)))
+  module _ (at : ℕ) (r : Run) (cells : List ℕ) (o : Output) (out : List ℕ) (g : Going T run cells₀ piece output out₀ at r cells o out) (y : Result Fed Refusal) (cells₂ out₂ : List ℕ)
+      (x : (y ≡ fed_of (feed_of r cells (rest piece at) (length out)))
       × ((cells₂ ≡ (feed_of r cells (rest piece at) (length out)).cells)
       × ((out₂ ≡ written (feed_of r cells (rest piece at) (length out)).text out)
-      × ((Ready r cells → line_most ≤ length out → Feeds r cells (rest piece at) (length out) (feed_of r cells (rest piece at) (length out)))
-      × ((fed.used ≤ length (rest piece at)) × (fed.wrote ≤ length out)))))) where
-    pub going-wrote : fed.wrote ≤ length out₂
-    going-wrote = feeding-wrote T run cells₀ piece output at r cells o g.feeding out g.room fed x.0 x.1.1.1.0 cells₂ x.1.0 out₂ x.1.1.0
+      × (Ready r cells → line_most ≤ length out → Feeds r cells (rest piece at) (length out) (feed_of r cells (rest piece at) (length out)))))) where
+    pub going-passes : IsOk y
+    going-passes = subst IsOk (sym x.0) (feeding-passes T run cells₀ piece output at r cells o g.feeding out g.room x.1.1.1)
 
-    pub going-moves : at < length piece → 0 < fed.used
-    going-moves h = feeding-moves T run cells₀ piece output at r cells o g.feeding out g.room fed x.0 x.1.1.1.0 h
+    module _ (fed : Fed) (f : y ≡ Ok fed) where
+      pub going-inside : at + fed.used ≤ length piece
+      going-inside = feeding-inside T run cells₀ piece output at r cells o g.feeding out g.room x.1.1.1 fed (sym x.0 ∙ f) cells₂ x.1.0 out₂ x.1.1.0 g.inside
 
-    pub going-inside : at + fed.used ≤ length piece
-    going-inside = feeding-inside T run cells₀ piece output at r cells o g.feeding out g.room fed x.0 x.1.1.1.0 g.inside
+      module _ (b : Bool) (o₂ : Output) (e : o₂ ≡ sent b (wrote o (take (fed.wrote - 0) out₂))) (A T' : List ℕ → Type 0) (h : b ≡ false → A (take (fed.wrote - 0) out₂))
+          (join : (s u : List ℕ) → T s → A u → T' (s ++ u)) where
+        fed-on : Feeding T' run cells₀ piece output (at + fed.used) fed.run cells₂ b o₂
+        fed-on = feeding-on T run cells₀ piece output at r cells o g.feeding out g.room x.1.1.1 fed (sym x.0 ∙ f) cells₂ x.1.0 out₂ x.1.1.0 b o₂ e A T' h join
 
-    module _ (b : Bool) (o₂ : Output) (e : o₂ ≡ sent b (wrote o (take (fed.wrote - 0) out₂))) (A T' : List ℕ → Type 0) (h : b ≡ false → A (take (fed.wrote - 0) out₂))
-        (join : (s u : List ℕ) → T s → A u → T' (s ++ u)) where
-      fed-on : Feeding T' run cells₀ piece output (at + fed.used) fed.run cells₂ b o₂
-      fed-on = feeding-on T run cells₀ piece output at r cells o g.feeding out g.room fed x.0 x.1.1.1.0 cells₂ x.1.0 out₂ x.1.1.0 b o₂ e A T' h join
+        pub going_on : b ≡ false → length cells₂ ≡ length cells → length out₂ ≡ length out → Going T' run cells₀ piece output out₀ (at + fed.used) fed.run cells₂ o₂ out₂
+        going_on z same same_out =
+            record {
+              feeding = subst (λ (w : Bool). Feeding T' run cells₀ piece output (at + fed.used) fed.run cells₂ w o₂) z fed-on;
+              inside = going-inside;
+              room = omega (arith, g.room, same_out);
+              cells-long = same ∙ g.cells-long;
+              out-long = same_out ∙ g.out-long;
+            }
 
-      pub going_on : b ≡ false → length cells₂ ≡ length cells → length out₂ ≡ length out → Going T' run cells₀ piece output out₀ (at + fed.used) fed.run cells₂ o₂ out₂
-      going_on f same same_out =
-          record {
-            feeding = subst (λ (y : Bool). Feeding T' run cells₀ piece output (at + fed.used) fed.run cells₂ y o₂) f fed-on;
-            inside = going-inside;
-            room = omega (arith, g.room, same_out);
-            cells-long = same ∙ g.cells-long;
-            out-long = same_out ∙ g.out-long;
-          }
-
-      pub going-cut : b ≡ true → Feeding T' run cells₀ piece output (at + fed.used) fed.run cells₂ true o₂ × (true ≡ false → length piece ≤ at + fed.used)
-      going-cut f = (subst (λ (y : Bool). Feeding T' run cells₀ piece output (at + fed.used) fed.run cells₂ y o₂) f fed-on, λ u. absurd (true≢false u))
+        pub going-cut : b ≡ true → Feeding T' run cells₀ piece output (at + fed.used) fed.run cells₂ true o₂ × (true ≡ false → length piece ≤ at + fed.used)
+        going-cut z = (subst (λ (w : Bool). Feeding T' run cells₀ piece output (at + fed.used) fed.run cells₂ w o₂) z fed-on, λ u. absurd (true≢false u))
 
 -- ---- the pieces
 
 -- what `stopped` answers
 abbrev done_by : Input → Output → (at_end failed cut_off long : Bool) → Done
-done_by i o at_end failed cut_off long = record { input = i; output = o; refusal = 0; ended = at_end; read_failed = failed; write_failed = cut_off; too_long = long }
+done_by i o at_end failed cut_off long = record { input = i; output = o; refusal = None; ended = at_end; read_failed = failed; write_failed = cut_off; too_long = long }
 
 answers : (G T : List ℕ → Type 0) (E : Type 0) (from to : ℕ) (i : Input) (o : Output) (at_end failed cut_off long : Bool) → Moves G T E from to (done_by i o at_end failed cut_off long)
-    → (d : Done) → d ≡ done_by i o at_end failed cut_off long → Moves G T E from to d × (d.refusal ≡ 0)
+    → (d : Done) → d ≡ done_by i o at_end failed cut_off long → Moves G T E from to d × (d.refusal ≡ None)
 answers G T E from to i o at_end failed cut_off long y d q = (subst (Moves G T E from to) (sym q) y, ap (λ (x : Done). x.refusal) q)
 
 -- the first line was handed over
@@ -190,7 +218,7 @@ module _ (G T : List ℕ → Type 0) (E : Type 0) (from to : ℕ) (r : Run) (is-
         took = taken f;
       }
 
-  pub head-failed : c ≡ true → (d : Done) → d ≡ done_by i o false false true false → Moves G T E from to d × (d.refusal ≡ 0)
+  pub head-failed : c ≡ true → (d : Done) → d ≡ done_by i o false false true false → Moves G T E from to d × (d.refusal ≡ None)
   head-failed f =
       answers G T E from to i o false false true false
       (record {
@@ -211,7 +239,7 @@ module _ (G T : List ℕ → Type 0) (E : Type 0) (from to : ℕ) (r : Run) (is-
       })
 
 pub unmoved : (from to : ℕ) (i : Input) → i ≡ unread from → (o : Output) → o ≡ unwritten to
-    → (E : Type 0) → Moves IsEmpty IsEmpty E from to (record { input = i; output = o; refusal = output_short; ended = false; read_failed = false; write_failed = false; too_long = false })
+    → (E : Type 0) → Moves IsEmpty IsEmpty E from to (record { input = i; output = o; refusal = Some OutputShort; ended = false; read_failed = false; write_failed = false; too_long = false })
 unmoved from to i is-i o is-o E =
     record {
       replays = record {
@@ -219,7 +247,7 @@ unmoved from to i is-i o is-o E =
         text = [];
         is-input = is-i ∙ sym (read_none from);
         is-output = is-o ∙ sym (wrote_none to);
-        whole = λ u. absurd (omega (arith, u));
+        whole = λ u. absurd (some-none u);
         begun = λ u more v. record { rest = replay_prints more; is = refl };
         broke = λ u. absurd (true≢false (sym u));
         long = λ u. absurd (true≢false (sym u));
@@ -229,6 +257,9 @@ unmoved from to i is-i o is-o E =
       took = λ u. refl;
       ends = λ u. absurd (true≢false (sym u));
     }
+  where
+    some-none : ◌≡◌ {A = Option Refusal} (Some OutputShort) None → ⊥
+    some-none q = cc
 
 module _ (G T : List ℕ → Type 0) (from to left : ℕ) (r : Run) (cells : List ℕ) (i : Input) (o : Output) (g : Reading G T from to left r cells i o) where
   all : replay_prints g.bytes ≡ g.text ++ ahead r cells []
@@ -238,7 +269,7 @@ module _ (G T : List ℕ → Type 0) (from to left : ℕ) (r : Run) (cells : Lis
   handed-is b o' t e = e ∙ ap (λ (x : Output). sent b (wrote x t)) g.is-output ∙ ap (sent b) (wrote_on (unwritten to) g.text t)
 
   -- so many bytes were read that no turn is left
-  pub ends-long : (E : Type 0) → left ≤ 0 → (d : Done) → d ≡ done_by i o false false false true → Moves G T E from to d × (d.refusal ≡ 0)
+  pub ends-long : (E : Type 0) → left ≤ 0 → (d : Done) → d ≡ done_by i o false false false true → Moves G T E from to d × (d.refusal ≡ None)
   ends-long E h =
       answers G T E from to i o false false false true
       (record {
@@ -266,7 +297,7 @@ module _ (G T : List ℕ → Type 0) (from to left : ℕ) (r : Run) (cells : Lis
 
     -- it failed
     pub ends-fail : failed ≡ true → n ≡ 0 → (room : ℕ) → line_most ≤ room → (b : Bool) (o' : Output) → o' ≡ sent b (wrote o (fail_of r cells room).text) → (b ≡ false → B (fail_of r cells room).text)
-        → (d : Done) → d ≡ done_by i' o' false true b false → Moves G' T' E from to d × (d.refusal ≡ 0)
+        → (d : Done) → d ≡ done_by i' o' false true b false → Moves G' T' E from to d × (d.refusal ≡ None)
     unfolding came
     ends-fail f z room h b o' e w =
         answers G' T' E from to i' o' false true b false
@@ -281,7 +312,7 @@ module _ (G T : List ℕ → Type 0) (from to left : ℕ) (r : Run) (cells : Lis
             broke = λ u. record {
               lines = g.text;
               accepted = r.accepted;
-              refusal = cond (eqb r.filled 0) 0 record_malformed;
+              refusal = cond (eqb r.filled 0) 0 (number RecordMalformed);
               before = all ∙ ap (λ (x : List ℕ). g.text ++ x) (end_line_lem r cells room g.ready g.on);
               is = ap (λ (x : List ℕ). g.text ++ x) (fail-line r cells room g.ready h g.on);
             };
@@ -295,7 +326,7 @@ module _ (G T : List ℕ → Type 0) (from to left : ℕ) (r : Run) (cells : Lis
 
     -- it met the end of the input
     pub ends-finish : failed ≡ false → n ≡ 0 → (room : ℕ) → line_most ≤ room → (b : Bool) (o' : Output) → o' ≡ sent b (wrote o (finish_of r cells room).text) → (b ≡ false → B (finish_of r cells room).text) → E
-        → (d : Done) → d ≡ done_by i' o' true false b false → Moves G' T' E from to d × (d.refusal ≡ 0)
+        → (d : Done) → d ≡ done_by i' o' true false b false → Moves G' T' E from to d × (d.refusal ≡ None)
     unfolding came
     ends-finish f z room h b o' e y fin =
         let t = (finish_of r cells room).text in
@@ -344,7 +375,7 @@ module _ (G T : List ℕ → Type 0) (from to left : ℕ) (r : Run) (cells : Lis
           ∙ sym (append_assoc g.text h.text (ahead r' cells' (drop at (take n buf) ++ more)))
 
       -- nothing more is read: a write failed, or the run is over
-      ends-early : (v : Bool) → b ≡ v → (v ≡ false → r'.over ≡ true) → (d : Done) → d ≡ done_by i' o' false false v false → Moves G' T' E from to d × (d.refusal ≡ 0)
+      ends-early : (v : Bool) → b ≡ v → (v ≡ false → r'.over ≡ true) → (d : Done) → d ≡ done_by i' o' false false v false → Moves G' T' E from to d × (d.refusal ≡ None)
       ends-early v q over =
           answers G' T' E from to i' o' false false v false
           (record {
@@ -365,14 +396,14 @@ module _ (G T : List ℕ → Type 0) (from to left : ℕ) (r : Run) (cells : Lis
             ends = λ u. absurd (true≢false (sym u));
           })
 
-      pub ends-cut : b ≡ true → (d : Done) → d ≡ done_by i' o' false false true false → Moves G' T' E from to d × (d.refusal ≡ 0)
+      pub ends-cut : b ≡ true → (d : Done) → d ≡ done_by i' o' false false true false → Moves G' T' E from to d × (d.refusal ≡ None)
       ends-cut q = ends-early true q (λ u. absurd (true≢false u))
 
-      pub ends-over : b ≡ false → r'.over ≡ true → (d : Done) → d ≡ done_by i' o' false false false false → Moves G' T' E from to d × (d.refusal ≡ 0)
+      pub ends-over : b ≡ false → r'.over ≡ true → (d : Done) → d ≡ done_by i' o' false false false false → Moves G' T' E from to d × (d.refusal ≡ None)
       ends-over q e = ends-early false q (λ u. e)
 
-      pub reading-on : b ≡ false → length (take (n - 0) buf) ≤ at → r'.over ≡ false → 0 < left → n ≤ length buf → Reading G' T' from to (left - 1) r' cells' i' o'
-      reading-on q l on turns fits =
+      pub reading-on : b ≡ false → length (take (n - 0) buf) ≤ at → r'.over ≡ false → 0 < left → n ≤ length buf → (less : ℕ) → less ≡ left - 1 → Reading G' T' from to less r' cells' i' o'
+      reading-on q l on turns fits less is-less =
           let e : drop at (take n buf) ≡ [] = drop_of_length-le (take n buf) {i = at} (omega (arith, l, ap length piece_is)) in
           record {
             bytes = g.bytes ++ take n buf;
@@ -382,7 +413,7 @@ module _ (G T : List ℕ → Type 0) (from to left : ℕ) (r : Run) (cells : Lis
             goes_on = λ more. goes more ∙ ap (λ (x : List ℕ). (g.text ++ h.text) ++ ahead r' cells' (x ++ more)) e;
             ready = h.ready;
             on = on;
-            counted = more-read (length-append g.bytes (take n buf)) (length-take-le n buf fits) g.counted turns;
+            counted = subst (λ (m : ℕ). 18446744073709551615 ≤ m + length (g.bytes ++ take n buf)) (sym is-less) (more-read (length-append g.bytes (take n buf)) (length-take-le n buf fits) g.counted turns);
             gave = join g.bytes (take n buf) g.gave got;
             took = joined g.text h.text g.took (h.took q);
           }
@@ -429,9 +460,9 @@ module _ (piece room : ℕ) (b : Bool) (is_b : b ≡ (eqb piece 0 || ltb room li
   pub parts-long : b ≡ false → (m n : ℕ) → m ≡ min piece most → n ≡ min room most → (m ≤ most) × (n ≤ most) × (line_most ≤ n)
   parts-long e m n p q = let l = room-long e in (omega (arith, p), omega (arith, q), omega (arith, q, l))
 
-pub answered : (piece place : ℕ) (b : Bool) → b ≡ (eqb piece 0 || ltb place line_most) → (v : Bool) → b ≡ v → (n : ℕ) → n ≡ cond v output_short 0
-    → n ≡ cond (eqb piece 0 || ltb place line_most) output_short 0
-answered piece place b is_b v e n h = h ∙ ap (λ (x : Bool). cond x output_short 0) (sym e ∙ is_b)
+pub answered : (piece place : ℕ) (b : Bool) → b ≡ (eqb piece 0 || ltb place line_most) → (v : Bool) → b ≡ v → (n : Option Refusal) → n ≡ cond v (Some OutputShort) None
+    → n ≡ cond (eqb piece 0 || ltb place line_most) (Some OutputShort) None
+answered piece place b is_b v e n h = h ∙ ap (λ (x : Bool). cond x (Some OutputShort) None) (sym e ∙ is_b)
 
 -- what is told may be told in other words
 pub moved-as : (G T G' T' : List ℕ → Type 0) (E E' : Type 0) (from to : ℕ) (d : Done) → ((l : List ℕ) → G l → G' l) → ((l : List ℕ) → T l → T' l) → (E → E') → Moves G T E from to d
@@ -439,7 +470,7 @@ pub moved-as : (G T G' T' : List ℕ → Type 0) (E E' : Type 0) (from to : ℕ)
 moved-as G T G' T' E E' from to d f h e m = record { replays = m.replays; gave = f m.replays.bytes m.gave; took = λ u. h m.replays.text (m.took u); ends = λ u. e (m.ends u) }
 
 -- what is printed, where the reader's and the writer's bytes are known
-pub printed-known : (s s' k k' : Option (List ℕ)) (from to : ℕ) (d : Done) → Moves (Consumes s s') (Appends k k') (IsAtEnd s') from to d → d.refusal ≡ 0 → d.read_failed ≡ false
+pub printed-known : (s s' k k' : Option (List ℕ)) (from to : ℕ) (d : Done) → Moves (Consumes s s') (Appends k k') (IsAtEnd s') from to d → d.refusal ≡ None → d.read_failed ≡ false
     → d.write_failed ≡ false → d.too_long ≡ false → IfSome s (λ xs. Appends k k' (replay_prints xs))
 printed-known None s' k k' from to d m a b c e = tt
 printed-known (Some xs) None k k' from to d m a b c e = absurd m.gave

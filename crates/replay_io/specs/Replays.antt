@@ -1,8 +1,9 @@
 -- What is read from one descriptor and handed to another. docs/RULES.md, "Replay".
 -- Assumes nothing.
-use Rattle.std.specs.Prelude.{ℕ, ◌+◌, ◌-◌, ◌^◌, ◌≤◌, ◌≡◌, Bool, true, false, List, [], ◌++◌, length, take, drop, Option}
+use Rattle.std.specs.Prelude.{None, ℕ, ◌+◌, ◌-◌, ◌^◌, ◌≤◌, ◌≡◌, Bool, true, false, List, [], ◌++◌, length, take, drop, Option}
 use Rattle.std.specs.Io.KnownBytes.{Appends}
-use Rattle.codec.specs.Refusal.{record_malformed}
+use Rattle.codec.specs.declared.refusal.Refusal.TheVariants.{RecordMalformed}
+use Rattle.codec.specs.Refusal.{number}
 use Rattle.ports.specs.declared.Input.{Input}
 use Rattle.ports.specs.declared.Output.{Output}
 use Rattle.ports.specs.Ports.{unread, unwritten, read, ended, broken, wrote, sent}
@@ -25,7 +26,7 @@ pub record Broken (input text : List ℕ) : Type 0 where
   pub accepted : ℕ
   pub refusal : ℕ
   pub before : replay_prints input ≡ lines ++ end_line accepted refusal
-  pub is : text ≡ lines ++ end_line accepted record_malformed
+  pub is : text ≡ lines ++ end_line accepted (number RecordMalformed)
 
 -- how the input ended, by what the call says of it
 abbrev pub input_by : (failed at_end : Bool) → Input → Input
@@ -42,12 +43,12 @@ pub record Replays (from to : ℕ) (d : Done) : Type 0 where
   pub text : List ℕ
   pub is-input : d.input ≡ input_by d.read_failed d.ended (read (unread from) bytes)
   pub is-output : d.output ≡ sent d.write_failed (wrote (unwritten to) text)
-  pub whole : d.refusal ≡ 0 → d.read_failed ≡ false → d.write_failed ≡ false → d.too_long ≡ false
+  pub whole : d.refusal ≡ None → d.read_failed ≡ false → d.write_failed ≡ false → d.too_long ≡ false
       → (more : List ℕ) → (d.ended ≡ true → more ≡ []) → text ≡ replay_prints (bytes ++ more)
   pub begun : d.read_failed ≡ false → (more : List ℕ) → (d.ended ≡ true → more ≡ []) → Begun (bytes ++ more) text
   pub broke : d.read_failed ≡ true → Broken bytes text
   pub long : d.too_long ≡ true → 2 ^ 64 - 1 ≤ length bytes
-  pub refused : (d.refusal ≡ 0 → ⊥) → (bytes ≡ []) × (text ≡ [])
+  pub refused : (d.refusal ≡ None → ⊥) → (bytes ≡ []) × (text ≡ [])
 
 -- The same of a reader and a writer: what is told of the bytes that the reader gave; of the text that the writer took, where no write failed; and
 -- of the reader where its end was met.

@@ -5,15 +5,14 @@
 ghost use Rattle.std.specs.Io.KnownBytes.{Appends, Consumes, IsAtEnd};
 ghost use Rattle.stream.specs.Driven.{replay_prints};
 ghost use Rattle.std.specs.Prelude.{◌≡◌, ◌<◌, IfSome, false, ◌||◌, cond, ◌≤◌, min, ltb, eqb, length};
-ghost use Rattle.codec.specs.Refusal.{output_short};
+ghost use Rattle.codec.specs.declared.refusal.Refusal.TheVariants.{OutputShort};
 ghost use Rattle.voting.specs.Settings.{mainnet};
 ghost use Rattle.ports.specs.Ports.{wrote, sent};
 ghost use Rattle.stream.specs.Lines.{head_line, line_most};
 ghost use Rattle.stream.specs.Run.{longest_record, Ready, finish_of, fail_of};
 ghost use Rattle.replay_io.specs.Replays.{most, front, Feeding, GoesOn, Moves, IsEmpty, Reading, Replays};
 
-use codec::output::Wrote;
-use codec::refusal;
+use codec::refusal::Refusal;
 use ports::{Input, Output, Sent};
 use std::io::{Eprint, Read, Write};
 use stream::run::Run;
@@ -22,12 +21,12 @@ use stream::{lines, run};
 // No read and no write is of more bytes.
 pub const MOST: usize = 0x1_0000;
 
-// What was read and handed over; 21 or 0; whether the end of the input was met, a read failed, a write failed, or the input is too long.
+// What was read and handed over; 21, where the call was refused; whether the end of the input was met, a read failed, a write failed, or the input is too long.
 #[derive(Clone, Copy)]
 pub struct Done {
     pub input: Input,
     pub output: Output,
-    pub refusal: u8,
+    pub refusal: Option<Refusal>,
     pub ended: bool,
     pub read_failed: bool,
     pub write_failed: bool,
@@ -55,9 +54,9 @@ pub fn replay<R: Read, W: Write>(
 ) -> Done
     ensures replays { Replays from to result }
     ensures moves { Moves (Consumes (R.remaining source.old) (R.remaining source.new)) (Appends (W.contents sink.old) (W.contents sink.new)) (IsAtEnd (R.remaining source.new)) from to result }
-    ensures printed { result.refusal ≡ 0 → result.read_failed ≡ false → result.write_failed ≡ false → result.too_long ≡ false
+    ensures printed { result.refusal ≡ None → result.read_failed ≡ false → result.write_failed ≡ false → result.too_long ≡ false
         → IfSome (R.remaining source.old) (λ xs. Appends (W.contents sink.old) (W.contents sink.new) (replay_prints xs)) }
-    ensures refused { result.refusal ≡ cond (eqb piece 0 || ltb room line_most) output_short 0 }
+    ensures refused { result.refusal ≡ cond (eqb piece 0 || ltb room line_most) (Some OutputShort) None }
 {
     if too_short(piece, room) {
         return unmoved(from, to);
@@ -96,12 +95,12 @@ fn least(a: usize, b: usize) -> usize
 
 // 21: nothing was read, and nothing handed over.
 fn unmoved(from: u32, to: u32) -> Done
-    ensures { Moves IsEmpty IsEmpty ⊥ from to result × (result.refusal ≡ output_short) }
+    ensures { Moves IsEmpty IsEmpty ⊥ from to result × (result.refusal ≡ Some OutputShort) }
 {
     Done {
         input: ports::no_input(from),
         output: ports::no_output(to),
-        refusal: refusal::OUTPUT_SHORT,
+        refusal: Some(Refusal::OutputShort),
         ended: false,
         read_failed: false,
         write_failed: false,
@@ -117,12 +116,12 @@ fn stopped(
     write_failed: bool,
     too_long: bool,
 ) -> Done
-    ensures { result ≡ record { input = input; output = output; refusal = 0; ended = ended; read_failed = read_failed; write_failed = write_failed; too_long = too_long } }
+    ensures { result ≡ record { input = input; output = output; refusal = None; ended = ended; read_failed = read_failed; write_failed = write_failed; too_long = too_long } }
 {
     Done {
         input,
         output,
-        refusal: 0,
+        refusal: None,
         ended,
         read_failed,
         write_failed,
@@ -144,7 +143,7 @@ fn replay_in<R: Read, W: Write>(
     room: usize,
 ) -> Done
     requires { (piece ≤ most) × (room ≤ most) × (line_most ≤ room) }
-    ensures { Moves (Consumes (R.remaining source.old) (R.remaining source.new)) (Appends (W.contents sink.old) (W.contents sink.new)) (0 < piece → IsAtEnd (R.remaining source.new)) from to result × (result.refusal ≡ 0) }
+    ensures { Moves (Consumes (R.remaining source.old) (R.remaining source.new)) (Appends (W.contents sink.old) (W.contents sink.new)) (0 < piece → IsAtEnd (R.remaining source.new)) from to result × (result.refusal ≡ None) }
 {
     replay_by(rt, source, sink, from, to, cells, buf, out, piece, room)
 }
@@ -162,7 +161,7 @@ fn replay_by<R: Read, W: Write>(
     room: usize,
 ) -> Done
     requires { (longest_record mainnet ≤ length cells.old) × (piece ≤ length buf.old) × (room ≤ length out.old) × (line_most ≤ room) }
-    ensures { Moves (Consumes (R.remaining source.old) (R.remaining source.new)) (Appends (W.contents sink.old) (W.contents sink.new)) (0 < piece → IsAtEnd (R.remaining source.new)) from to result × (result.refusal ≡ 0) }
+    ensures { Moves (Consumes (R.remaining source.old) (R.remaining source.new)) (Appends (W.contents sink.old) (W.contents sink.new)) (0 < piece → IsAtEnd (R.remaining source.new)) from to result × (result.refusal ≡ None) }
 {
     replay_from(
         rt,
@@ -187,7 +186,7 @@ fn replay_from<R: Read, W: Write>(
     out: &mut [u8],
 ) -> Done
     requires { (longest_record mainnet ≤ length cells.old) × (line_most ≤ length out.old) }
-    ensures { Moves (Consumes (R.remaining source.old) (R.remaining source.new)) (Appends (W.contents sink.old) (W.contents sink.new)) (0 < length buf.old → IsAtEnd (R.remaining source.new)) from to result × (result.refusal ≡ 0) }
+    ensures { Moves (Consumes (R.remaining source.old) (R.remaining source.new)) (Appends (W.contents sink.old) (W.contents sink.new)) (0 < length buf.old → IsAtEnd (R.remaining source.new)) from to result × (result.refusal ≡ None) }
 {
     let run = run::begin_mainnet();
     let input = ports::no_input(from);
@@ -201,7 +200,7 @@ fn replay_from<R: Read, W: Write>(
     )
 }
 
-// Reads to the end, to the first refusal, or to a read or a write that failed. The turns are counted down from a number that no run uses up, since
+// Reads to the end, to the first refusal, or to a read or a write that failed. The turns are counted, up to a number that no run uses up, since
 // nothing says that an input ends; each reads a byte at least.
 fn read_all<R: Read, W: Write>(
     rt: &impl Eprint,
@@ -217,14 +216,12 @@ fn read_all<R: Read, W: Write>(
     output: Output,
 ) -> Done
     requires { Reading IsEmpty (λ text. text ≡ head_line) from to 18446744073709551615 run cells.old input output × (line_most ≤ length out.old) }
-    ensures { Moves (Consumes (R.remaining source.old) (R.remaining source.new)) (GoesOn head_line (W.contents sink.old) (W.contents sink.new)) (0 < length buf.old → IsAtEnd (R.remaining source.new)) from to result × (result.refusal ≡ 0) }
+    ensures { Moves (Consumes (R.remaining source.old) (R.remaining source.new)) (GoesOn head_line (W.contents sink.old) (W.contents sink.new)) (0 < length buf.old → IsAtEnd (R.remaining source.new)) from to result × (result.refusal ≡ None) }
 {
     let mut state = run;
     let mut got = input;
     let mut handed = output;
-    let mut turns = u64::MAX;
-    while 0 < turns {
-        turns -= 1;
+    for _ in 0..u64::MAX {
         let came = ports::receive(rt, source, got, buf);
         got = came.input;
         if came.failed {
@@ -269,7 +266,7 @@ fn feed_piece<W: Write>(
     let mut handed = output;
     let mut at: usize = 0;
     while at < piece.len() {
-        let fed = run::feed(state, cells, &piece[at..], out);
+        let fed = run::feed(state, cells, &piece[at..], out).unwrap();
         let n = fed.wrote;
         let sent = hand_over(rt, sink, handed, out, n);
         state = fed.run;
@@ -307,8 +304,8 @@ fn send_head<W: Write>(rt: &impl Eprint, sink: &mut W, out: &mut [u8], output: O
     ensures bytes { result.failed ≡ false → Appends (W.contents sink.old) (W.contents sink.new) head_line }
 {
     match lines::write_head(out) {
-        Wrote::Bytes(n) => hand_over(rt, sink, output, out, n),
-        Wrote::Refused(_) => Sent {
+        Ok(n) => hand_over(rt, sink, output, out, n),
+        Err(_) => Sent {
             output,
             failed: true,
         },
@@ -326,8 +323,10 @@ fn send_finish<W: Write>(
     ensures booked { result.output ≡ sent result.failed (wrote output (finish_of run cells.now (length out.old)).text) }
     ensures bytes { result.failed ≡ false → Appends (W.contents sink.old) (W.contents sink.new) (finish_of run cells.now (length out.old)).text }
 {
-    let fed = run::finish(run, cells, out);
-    let n = fed.wrote;
+    let n = match run::finish(run, cells, out) {
+        Ok(fed) => fed.wrote,
+        Err(_) => 0,
+    };
     hand_over(rt, sink, output, out, n)
 }
 
@@ -342,7 +341,9 @@ fn send_fail<W: Write>(
     ensures booked { result.output ≡ sent result.failed (wrote output (fail_of run cells.now (length out.old)).text) }
     ensures bytes { result.failed ≡ false → Appends (W.contents sink.old) (W.contents sink.new) (fail_of run cells.now (length out.old)).text }
 {
-    let fed = run::fail(run, cells, out);
-    let n = fed.wrote;
+    let n = match run::fail(run, cells, out) {
+        Ok(fed) => fed.wrote,
+        Err(_) => 0,
+    };
     hand_over(rt, sink, output, out, n)
 }

@@ -4,30 +4,34 @@
 use mathlib.Core.Path.{◌≡◌, refl, sym, ap, ◌∙◌}
 use mathlib.Core.Bool.{Bool, true, false, cond, ◌&&◌}
 use mathlib.Core.List.{List, [], ◌∷◌}
-use Prim.Native.Nat.{ℕ, zero, suc, ◌+◌, ◌*◌, ◌^◌}
+use Prim.Native.Nat.{ℕ, ◌+◌, ◌*◌, ◌^◌}
 use native.Mathlib.Omega.{arith}
 use borrow.Author.Tests.{leb-true, eqb-true}
 use lib.Dec.{leb, eqb, lit<}
 use lib.IntN.{pos}
 use lib.ListN.{length}
+use Rattle.std.specs.Prelude.{Result, Ok, Err}
+use Rattle.std.specs.Result.{result_and}
+use Rattle.codec.specs.declared.refusal.Refusal.{Refusal}
+use Rattle.codec.specs.declared.refusal.Refusal.TheVariants.{RecordMalformed, HeightUnexpected}
+use Rattle.codec.specs.Check.{Check, passed, and_then}
+use Rattle.codec.specs.Refusal.{number}
 use Rattle.codec.specs.Signed.{modulo, bits_of, signed_of, wrapped}
 use Rattle.voting.specs.declared.settings.VotingConfig.{VotingConfig}
 use Rattle.voting.specs.declared.table.Fork.{Fork}
 use Rattle.voting.specs.declared.fork.ForkPart.{ForkPart}
 use Rattle.counting.specs.Count.{count}
-use Rattle.voting.specs.Common.{eq_z, first, gate}
+use Rattle.voting.specs.Common.{eq_z}
 use Rattle.voting.specs.Settings.{voting_length, settings, fork_limit, soft_fork_approved, settings_large}
 use Rattle.voting.specs.Header.{votes_in, negation, ordinary_vote, fault, fault_in, check_votes, check_header_votes, votes_for, AllLegal}
 use Rattle.voting.specs.Tally.{headers, slot_entry, seeded, entry, entries, first_count, first_votes, counted_for}
-use Rattle.voting.specs.ForkCheck.{epochs_after, between, barred, check_round, fork_refusal}
+use Rattle.voting.specs.ForkCheck.{epochs_after, between, barred, check_round}
 use Rattle.voting.specs.ForkPart.{phase_at, fork_total, reads_total, closes_late, without, closes_early, restarts, begun, collected, rises, one_more, version_by, risen, five_steps, two_for_one, forced, finished, running, opening, by_start, fork_part}
-use Rattle.voting.proofs.Laws.Header.{first-zero}
-use Rattle.voting.proofs.Laws.Fork.{allowed}
 use Rattle.rounds.specs.Epochs.{boundary_votes, counted}
 use Rattle.rounds.specs.Book.{idle, since}
 use Rattle.rounds.specs.Replay.{Answer, refused, accepted, Replay, run, Lawful}
 use Rattle.rounds.specs.Claim.{Sound, Opening, entries_for, Promise}
-use Rattle.voting.proofs.Laws.Tests.{both}
+use Rattle.voting.proofs.Laws.Tests.{both, and-passed, then_ok}
 use Rattle.rounds.proofs.Promise.{promise}
 
 pub record Record : Type 0 where
@@ -39,27 +43,33 @@ pub record State : Type 0 where
   pub next : ℕ
   pub before : List ℕ
 
-unfoldable pub test : Bool → ℕ → ℕ
-test b n = cond b 0 n
+unfoldable pub test : Bool → Refusal → Check
+test b e = cond b passed (Err e)
 
-unfoldable pub illegal : List (List ℕ) → ℕ
-illegal [] = 0
-illegal (h ∷ hs) = first (check_header_votes h) (illegal hs)
+unfoldable pub illegal : List (List ℕ) → Check
+illegal [] = passed
+illegal (h ∷ hs) = result_and (check_header_votes h) (illegal hs)
 
 abbrev brings : State → ℕ
 brings s = first_count (pos 120) (entries (seeded s.before))
 
-abbrev part : VotingConfig → State → Record → ForkPart
+abbrev part : VotingConfig → State → Record → Result ForkPart Refusal
 part g s r = fork_part g r.height (boundary_votes r.votes) (brings s) s.fork
 
+unfoldable pub next_state : VotingConfig → State → Record → Result State Refusal
+next_state g s r =
+    result_and (test (eqb (length r.votes) (3 * voting_length g)) RecordMalformed)
+    (result_and (test (eqb r.height s.next && leb (r.height + voting_length g) (2 ^ 31)) HeightUnexpected)
+    (result_and (illegal (headers r.votes))
+    (result_and (cond (boundary_votes r.votes) (check_round g r.height s.fork.start s.fork.votes) passed)
+    (and_then (part g s r) (λ p. Ok (record { fork = p.fork; next = r.height + voting_length g; before = r.votes }))))))
+
+unfoldable pub answer : Result State Refusal → Answer State
+answer (Ok t) = accepted t
+answer (Err e) = refused (number e)
+
 unfoldable pub step : VotingConfig → State → Record → Answer State
-step g s r =
-    gate refused (test (eqb (length r.votes) (3 * voting_length g)) 25)
-    (gate refused (test (eqb r.height s.next && leb (r.height + voting_length g) (2 ^ 31)) 26)
-    (gate refused (illegal (headers r.votes))
-    (gate refused (cond (boundary_votes r.votes) (fork_refusal (check_round g r.height s.fork.start s.fork.votes)) 0)
-    (gate refused (part g s r).refusal
-    (accepted (record { fork = (part g s r).fork; next = r.height + voting_length g; before = r.votes }))))))
+step g s r = answer (next_state g s r)
 
 abbrev pub replay : VotingConfig → Replay
 replay g =
@@ -76,47 +86,45 @@ replay g =
 
 -- ---- it keeps the law
 
-gate-zero : (n : ℕ) (a : Answer State) (t : State) → gate refused n a ≡ accepted t → n ≡ 0
-unfolding gate
-gate-zero zero a t e = refl
-gate-zero (suc n) a t e = absurd (let z : ◌≡◌ {A = ℕ} 0 1 = cc in omega arith)
+was-ok : (a : Result State Refusal) (t : State) → answer a ≡ accepted t → a ≡ Ok t
+unfolding answer
+was-ok (Ok s) t e = let q : s ≡ t = cc in ap Ok q
+was-ok (Err n) t e = cc
 
-gate-rest : (n : ℕ) (a : Answer State) (t : State) → gate refused n a ≡ accepted t → a ≡ accepted t
-unfolding gate
-gate-rest zero a t e = e
-gate-rest (suc n) a t e = absurd (let z : ◌≡◌ {A = ℕ} 0 1 = cc in omega arith)
+-- a check and what came after it
+and-ok : (r : Check) (s : Result State Refusal) {t : State} → result_and r s ≡ Ok t → (r ≡ passed) × (s ≡ Ok t)
+and-ok (Ok x) s q = (refl, q)
+and-ok (Err e) s q = cc
 
-test_zero : (b : Bool) (n : ℕ) → test b (suc n) ≡ 0 → b ≡ true
+test-passed : (b : Bool) (e : Refusal) → test b e ≡ passed → b ≡ true
 unfolding test
-test_zero true n e = refl
-test_zero false n e = absurd (omega arith)
+test-passed true e q = refl
+test-passed false e q = cc
 
-legal : (hs : List (List ℕ)) → illegal hs ≡ 0 → AllLegal hs
+legal : (hs : List (List ℕ)) → illegal hs ≡ passed → AllLegal hs
 unfolding illegal
 legal [] e = tt
-legal (h ∷ hs) e = let q = first-zero (check_header_votes h) (illegal hs) e in (q.0, legal hs q.1)
-
-same : (s t : State) → accepted s ≡ accepted t → s ≡ t
-same s t e = cc
+legal (h ∷ hs) e = let q = and-passed (check_header_votes h) (illegal hs) e in (q.0, legal hs q.1)
 
 pub lawful : (g : VotingConfig) → Lawful g (replay g)
-unfolding step
-lawful g s r t e₀ =
-    let e₁ = gate-rest _ _ _ e₀ in
-    let e₂ = gate-rest _ _ _ e₁ in
-    let e₃ = gate-rest _ _ _ e₂ in
-    let e₄ = gate-rest _ _ _ e₃ in
-    let e₅ = same _ _ (gate-rest _ _ _ e₄) in
-    let at = both (eqb r.height s.next) (leb (r.height + voting_length g) (2 ^ 31)) (test_zero _ _ (gate-zero _ _ _ e₁)) in
+unfolding step next_state
+lawful g s r t e =
+    let e₁ = and-ok _ _ (was-ok _ t e) in
+    let e₂ = and-ok _ _ e₁.1 in
+    let e₃ = and-ok _ _ e₂.1 in
+    let e₄ = and-ok _ _ e₃.1 in
+    let left = then_ok (part g s r) _ e₄.1 in
+    let is-t : record { fork = left.0.fork; next = r.height + voting_length g; before = r.votes } ≡ t = cc in
+    let at = both (eqb r.height s.next) (leb (r.height + voting_length g) (2 ^ 31)) (test-passed _ _ e₂.0) in
     record {
-      long = eqb-true _ _ (test_zero _ _ (gate-zero _ _ _ e₀));
+      long = eqb-true _ _ (test-passed _ _ e₁.0);
       height = eqb-true r.height s.next at.0;
       top = leb-true (r.height + voting_length g) (2 ^ 31) at.1;
-      legal = legal (headers r.votes) (gate-zero _ _ _ e₂);
-      check = λ v. allowed g r.height s.fork.start s.fork.votes (ap (λ (b : Bool). cond b (fork_refusal (check_round g r.height s.fork.start s.fork.votes)) 0) (sym v) ∙ gate-zero _ _ _ e₃);
-      part = sym (ap (λ (z : State). z.fork) e₅);
-      next = sym (ap (λ (z : State). z.next) e₅);
-      brings = sym (ap (λ (z : State). brings z) e₅);
+      legal = legal (headers r.votes) e₃.0;
+      check = λ v. ap (λ (b : Bool). cond b (check_round g r.height s.fork.start s.fork.votes) passed) (sym v) ∙ e₄.0;
+      part = rw left.1 (sym (ap (λ (z : State). z.fork) is-t));
+      next = sym (ap (λ (z : State). z.next) is-t);
+      brings = sym (ap (λ (z : State). brings z) is-t);
     }
 
 -- ---- a run: two headers an epoch, one vote epoch, one activation epoch; more than 1 vote wins
@@ -135,7 +143,7 @@ start = record { fork = entries_for idle 1; next = 2; before = [] }
 a-run : run (replay small) start
     (epoch 2 120 120 ∷ epoch 5 0 0 ∷ epoch 4 120 0 ∷ epoch 4 0 0 ∷ epoch 6 120 0 ∷ epoch 6 0 0 ∷ epoch 8 120 0 ∷ epoch 10 1 1 ∷ epoch 12 128 0 ∷ epoch 12 120 120 ∷ [])
     ≡ record { fork = entries_for (since 12 0) 2; next = 14; before = 120 ∷ 0 ∷ 0 ∷ 120 ∷ 0 ∷ 0 ∷ [] }
-unfolding run step gate test illegal first check_header_votes check_votes votes_in negation ordinary_vote fault fault_in votes_for count eq_z headers slot_entry seeded entry entries first_count first_votes boundary_votes epochs_after between barred check_round fork_refusal phase_at fork_total reads_total closes_late without closes_early restarts begun collected rises one_more version_by risen five_steps two_for_one forced finished running opening by_start fork_part fork_limit soft_fork_approved settings_large modulo bits_of signed_of wrapped
+unfolding run step answer next_state test illegal check_header_votes check_votes votes_in negation ordinary_vote fault fault_in votes_for count eq_z headers slot_entry seeded entry entries first_count first_votes boundary_votes epochs_after between barred check_round phase_at fork_total reads_total closes_late without closes_early restarts begun collected rises one_more version_by risen five_steps two_for_one forced finished running opening by_start fork_part fork_limit soft_fork_approved settings_large modulo bits_of signed_of wrapped
 a-run = refl
 
 -- and the promise holds of it, from this start

@@ -8,14 +8,14 @@ use borrow.Author.Tests.{ltb-true, ltb-false, leb-true, leb-false, eqb-true, lt-
 use lib.Dec.{leb, ltb, eqb}
 use lib.IntN.{pos}
 use Rattle.voting.specs.declared.settings.VotingConfig.{VotingConfig}
-use Rattle.std.specs.Prelude.{None, Some}
+use Rattle.std.specs.Prelude.{Result, Ok, Err, None, Some}
 use Rattle.voting.specs.declared.table.Fork.{Fork}
 use Rattle.voting.specs.declared.fork.Phase.{Phase}
-use Rattle.voting.specs.declared.fork.Forked.{Forked}
-use Rattle.voting.specs.declared.fork.ForkPart.{ForkPart}
-use Rattle.voting.specs.declared.fork.ForkVote.TheVariants.{Allowed, Barred}
+use Rattle.codec.specs.declared.refusal.Refusal.{Refusal}
+use Rattle.codec.specs.declared.refusal.Refusal.TheVariants.{ForkVoteBarred}
+use Rattle.codec.specs.Check.{passed}
 use Rattle.codec.specs.Signed.{wrapped}
-use Rattle.voting.specs.Common.{eq_z, gate}
+use Rattle.voting.specs.Common.{eq_z}
 use Rattle.voting.specs.Settings.{voting_length, vote_epochs, activation_epochs, version2_height, fork_limit, soft_fork_approved}
 use Rattle.voting.specs.Table.{fork_entries}
 use Rattle.voting.specs.ForkCheck.{epochs_after, between, barred, check_round}
@@ -23,6 +23,7 @@ use Rattle.voting.specs.ForkPart.{phase_at, fork_total, closes_late, closes_earl
 use Rattle.rounds.specs.Epochs.{forced_version}
 use Rattle.rounds.specs.Book.{idle, since, book_add, book_rise, book_close, book_open}
 use Rattle.rounds.specs.Claim.{entries_for, Sound}
+use Rattle.rounds.specs.Replay.{fork_after}
 use Rattle.voting.proofs.Laws.Tests.{by-test}
 use Rattle.voting.proofs.Laws.Fork.{begun-is, steps-are}
 use Rattle.rounds.proofs.BookAt.{add_at, rise-at, close_at}
@@ -95,7 +96,7 @@ module _ (h s n T v : ℕ) (at : Bool) (low : h < 2 ^ 31) where
 
 -- the fork entries that a boundary leaves
 abbrev pub fork_left : VotingConfig → ℕ → Bool → ℕ → Fork → Fork
-fork_left g h vote c f = (fork_part g h vote c f).fork
+fork_left g h vote c f = fork_after f (fork_part g h vote c f)
 
 -- An open round at its boundary S + L·j, with n votes collected and c in the epoch before
 module _ (g : VotingConfig) (sound : Sound g) (S j n c v : ℕ) (vote : Bool)
@@ -117,7 +118,7 @@ module _ (g : VotingConfig) (sound : Sound g) (S j n c v : ℕ) (vote : Bool)
   approved = ltb (fork_limit g) (c + n)
 
   part-is : fork_part g (S + voting_length g * j) vote c (entries_for (since S n) v)
-      ≡ finished g (S + voting_length g * j) (entries_for (since S n) v) (round_steps phase_here vote approved (pos (c + n))) (five_steps phase_here vote approved (pos (c + n)) (S + voting_length g * j) (entries_for (since S n) v))
+      ≡ finished g (S + voting_length g * j) (round_steps phase_here vote approved (pos (c + n))) (five_steps phase_here vote approved (pos (c + n)) (S + voting_length g * j) (entries_for (since S n) v))
   unfolding fork_part by_start running fork_total soft_fork_approved
   part-is =
       rw (
@@ -129,10 +130,10 @@ module _ (g : VotingConfig) (sound : Sound g) (S j n c v : ℕ) (vote : Bool)
 
   after_is : fork_left g (S + voting_length g * j) vote c (entries_for (since S n) v)
       ≡ entries_after (eqb j (vote_epochs g + activation_epochs g + 1)) (eqb j (vote_epochs g + 1)) (leb j (vote_epochs g)) (eqb j (vote_epochs g + activation_epochs g)) vote approved forcing (S + voting_length g * j) (c + n) S n v
-  unfolding finished gate forced version_by restarts closes_early closes_late rises
+  unfolding finished forced version_by restarts closes_early closes_late rises
   after_is =
-      ap (λ (x : ForkPart). x.fork) part-is
-      ∙ ap (λ (f : Forked). (finished g (S + voting_length g * j) (entries_for (since S n) v) (round_steps phase_here vote approved (pos (c + n))) f).fork)
+      ap (fork_after (entries_for (since S n) v)) part-is
+      ∙ ap (λ (f : Result Fork Refusal). fork_after (entries_for (since S n) v) (finished g (S + voting_length g * j) (round_steps phase_here vote approved (pos (c + n))) f))
       (steps-are phase_here vote approved (pos (c + n)) (S + voting_length g * j) (Some (pos n)) (Some (pos S)) (pos v))
       ∙ rw (version-small (eqb j (vote_epochs g + activation_epochs g) && approved) forcing v small)
 
@@ -189,7 +190,7 @@ module _ (g : VotingConfig) (sound : Sound g) (S j n c v : ℕ) (vote : Bool)
 -- and with no round open
 idle-is : (g : VotingConfig) → Sound g → (h c v : ℕ) (vote : Bool) → h % voting_length g ≡ 0
     → fork_part g h vote c (entries_for idle v)
-    ≡ finished g h (entries_for idle v) (record { opened = vote && true; closed = false; rose = false; total = None }) (record { refusal = 0; fork = fork_entries (cond (vote && true) (Some (pos 0)) None) (cond (vote && true) (Some (wrapped 32 (pos h))) None) (Some (pos v)) })
+    ≡ finished g h (record { opened = vote && true; closed = false; rose = false; total = None }) (Ok (fork_entries (cond (vote && true) (Some (pos 0)) None) (cond (vote && true) (Some (wrapped 32 (pos h))) None) (Some (pos v))))
 unfolding fork_part by_start opening
 idle-is g sound h c v vote mult =
     rw (
@@ -201,15 +202,15 @@ idle-is g sound h c v vote mult =
 
 pub fork-idle : (g : VotingConfig) → Sound g → (h c v : ℕ) (vote : Bool) → h < 2 ^ 31 → h % voting_length g ≡ 0 → v + 1 < 2 ^ 31
     → fork_left g h vote c (entries_for idle v) ≡ entries_for (book_open h vote idle) (forced_version g h v)
-unfolding finished gate forced version_by forced_version book_open
+unfolding finished forced version_by forced_version book_open
 fork-idle g sound h c v false low mult small =
-    ap (λ (x : ForkPart). x.fork) (idle-is g sound h c v false mult) ∙ rw (version-small false (eqb h (version2_height g)) v small)
+    ap (fork_after (entries_for idle v)) (idle-is g sound h c v false mult) ∙ rw (version-small false (eqb h (version2_height g)) v small)
 fork-idle g sound h c v true low mult small =
-    ap (λ (x : ForkPart). x.fork) (idle-is g sound h c v true mult) ∙ rw (version-small false (eqb h (version2_height g)) v small, wrap-small h low)
+    ap (fork_after (entries_for idle v)) (idle-is g sound h c v true mult) ∙ rw (version-small false (eqb h (version2_height g)) v small, wrap-small h low)
 
 -- a fork vote in the epochs V to V + A of a round is barred
 bars : (g : VotingConfig) → Sound g → (S j n : ℕ) → vote_epochs g ≤ j → j < vote_epochs g + activation_epochs g + 1
-    → (vote_epochs g < j → fork_limit g < n) → check_round g (S + voting_length g * j) (Some (pos S)) (Some (pos n)) ≡ Barred
+    → (vote_epochs g < j → fork_limit g < n) → check_round g (S + voting_length g * j) (Some (pos S)) (Some (pos n)) ≡ Err ForkVoteBarred
 unfolding check_round barred between epochs_after soft_fork_approved
 bars g sound S j n lo hi late =
     simp (leb-scaled (voting_length g) S sound.length-positive, ltb-scaled (voting_length g) S sound.length-positive, le-leb (vote_epochs g) j lo)
@@ -224,7 +225,7 @@ bars g sound S j n lo hi late =
     simp (ap', lt-ltb j (vote_epochs g + 1) here)))
 
 pub silent : (g : VotingConfig) → Sound g → (S j n : ℕ) (vote : Bool)
-    → (vote ≡ true → check_round g (S + voting_length g * j) (Some (pos S)) (Some (pos n)) ≡ Allowed)
+    → (vote ≡ true → check_round g (S + voting_length g * j) (Some (pos S)) (Some (pos n)) ≡ passed)
     → vote_epochs g ≤ j → j < vote_epochs g + activation_epochs g + 1 → (vote_epochs g < j → fork_limit g < n) → vote ≡ false
 silent g sound S j n false e lo hi late = refl
 silent g sound S j n true e lo hi late = let a = e refl in let b = bars g sound S j n lo hi late in cc

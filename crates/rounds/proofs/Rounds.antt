@@ -11,7 +11,7 @@ use lib.ListN.{length}
 use Rattle.voting.specs.declared.settings.VotingConfig.{VotingConfig}
 use Rattle.std.specs.Prelude.{Some}
 use Rattle.voting.specs.declared.table.Fork.{Fork}
-use Rattle.voting.specs.declared.fork.ForkVote.TheVariants.{Allowed}
+use Rattle.codec.specs.Check.{passed}
 use Rattle.voting.specs.Settings.{voting_length, vote_epochs, activation_epochs, fork_limit}
 use Rattle.voting.specs.ForkCheck.{check_round}
 use Rattle.voting.specs.Tally.{headers, seeded, entries, first_count}
@@ -57,7 +57,7 @@ module _ (g : VotingConfig) (sound : Sound g) (c : ℕ) (few : c ≤ voting_leng
   taken_at : (S n v j : ℕ) → n + S + voting_length g ≤ S + voting_length g * j → S + voting_length g * j + voting_length g ≤ 2 ^ 31
       → j ≤ vote_epochs g + activation_epochs g + 1 → (vote_epochs g + 1 < j → fork_limit g < n) → (vote_epochs g < j → c ≡ 0)
       → (j ≤ vote_epochs g + activation_epochs g → 2 * v ≤ 510 + S) → 2 * v ≤ 512 + S
-      → (boundary_votes xs ≡ true → check_round g (S + voting_length g * j) (Some (pos S)) (Some (pos n)) ≡ Allowed)
+      → (boundary_votes xs ≡ true → check_round g (S + voting_length g * j) (Some (pos S)) (Some (pos n)) ≡ passed)
       → Taken g xs c (since S n) v (S + voting_length g * j)
   taken_at S n v j room top last late quiet low high check =
       let p = sound.length-positive in (
@@ -69,25 +69,25 @@ module _ (g : VotingConfig) (sound : Sound g) (c : ℕ) (few : c ≤ voting_leng
       )
 
   taken-open : (S n v h : ℕ) → Open g S n v h c → h + voting_length g ≤ 2 ^ 31
-      → (boundary_votes xs ≡ true → check_round g h (Some (pos S)) (Some (pos n)) ≡ Allowed) → Taken g xs c (since S n) v h
+      → (boundary_votes xs ≡ true → check_round g h (Some (pos S)) (Some (pos n)) ≡ passed) → Taken g xs c (since S n) v h
   taken-open S n v h o top check =
       subst
       (λ (m : ℕ).
-      n + S + voting_length g ≤ m → m + voting_length g ≤ 2 ^ 31 → (boundary_votes xs ≡ true → check_round g m (Some (pos S)) (Some (pos n)) ≡ Allowed)
+      n + S + voting_length g ≤ m → m + voting_length g ≤ 2 ^ 31 → (boundary_votes xs ≡ true → check_round g m (Some (pos S)) (Some (pos n)) ≡ passed)
       → Taken g xs c (since S n) v m)
       (sym o.is_at)
       (λ room top check. taken_at S n v o.j room top o.last o.late o.quiet o.low o.high check)
       o.room top check
 
   taken-round : (r : Round) (v h : ℕ) → InvR g r v h c → h + voting_length g ≤ 2 ^ 31 → h % voting_length g ≡ 0
-      → (boundary_votes xs ≡ true → check_round g h (entries_for r v).start (entries_for r v).votes ≡ Allowed) → Taken g xs c r v h
+      → (boundary_votes xs ≡ true → check_round g h (entries_for r v).start (entries_for r v).votes ≡ passed) → Taken g xs c r v h
   taken-round idle v h i top mult check = taken-idle v h i top mult
   taken-round (since S n) v h i top mult check = taken-open S n v h i top check
 
 -- the invariant goes on over an accepted record
 take : (g : VotingConfig) → Sound g → (f f' : Fork) (next : ℕ) (c : ℕ) (r : Round) (v : ℕ) (before xs : List ℕ)
     → Inv g f next c r v before → next + voting_length g ≤ 2 ^ 31 → length xs ≡ 3 * voting_length g → AllLegal (headers xs)
-    → (boundary_votes xs ≡ true → check_round g next f.start f.votes ≡ Allowed)
+    → (boundary_votes xs ≡ true → check_round g next f.start f.votes ≡ passed)
     → f' ≡ fork_left g next (boundary_votes xs) c f
     → Inv g f' (next + voting_length g) (first_count (pos soft_fork_vote) (entries (seeded xs))) (round' g next (boundary_votes xs) (counted before) r)
     (version' g next (counted before) r v) xs

@@ -1,9 +1,11 @@
 -- What the rounds see of a replay: states, records and a step; and the law that an accepted step has to keep. docs/RULES.md, "Replay".
 -- Assumes nothing.
-use Rattle.std.specs.Prelude.{ℕ, ◌+◌, ◌*◌, ◌^◌, ◌≤◌, ◌≡◌, true, List, [], ◌∷◌, pos, length}
+use Rattle.std.specs.Prelude.{Result, Ok, Err, ℕ, ◌+◌, ◌*◌, ◌^◌, ◌≤◌, ◌≡◌, true, List, [], ◌∷◌, pos, length}
 use Rattle.voting.specs.declared.settings.VotingConfig.{VotingConfig}
 use Rattle.voting.specs.declared.table.Fork.{Fork}
-use Rattle.voting.specs.declared.fork.ForkVote.TheVariants.{Allowed}
+use Rattle.codec.specs.declared.refusal.Refusal.{Refusal}
+use Rattle.codec.specs.Check.{passed}
+use Rattle.voting.specs.declared.fork.ForkPart.{ForkPart}
 use Rattle.voting.specs.Settings.{voting_length}
 use Rattle.voting.specs.Tally.{headers, seeded, entries, first_count}
 use Rattle.voting.specs.ForkCheck.{check_round}
@@ -57,6 +59,11 @@ module _ (m : Replay) where
   epochs s [] = []
   epochs s (r ∷ rs) = add-epoch r (m.step s r) (epochs (after s (m.step s r)) rs)
 
+-- the entries that a fork part leaves; the old ones where it is refused
+abbrev pub fork_after : Fork → Result ForkPart Refusal → Fork
+fork_after old (Ok p) = p.fork
+fork_after old (Err e) = old
+
 -- What an accepted record has met, as far as the rounds look: L headers; the expected height, its epoch below 2^31; legal headers; a
 -- boundary header that may vote as it does, by the old table. What it leaves: the fork entries of the boundary, the next height, and the
 -- votes that its own tally brings on.
@@ -65,8 +72,8 @@ pub record Accepted (g : VotingConfig) (m : Replay) (s : m.State) (r : m.Record)
   pub height : m.height r ≡ m.next s
   pub top : m.height r + voting_length g ≤ 2 ^ 31
   pub legal : AllLegal (headers (m.votes r))
-  pub check : boundary_votes (m.votes r) ≡ true → check_round g (m.height r) (m.fork s).start (m.fork s).votes ≡ Allowed
-  pub part : m.fork t ≡ (fork_part g (m.height r) (boundary_votes (m.votes r)) (m.fork_votes s) (m.fork s)).fork
+  pub check : boundary_votes (m.votes r) ≡ true → check_round g (m.height r) (m.fork s).start (m.fork s).votes ≡ passed
+  pub part : m.fork t ≡ fork_after (m.fork s) (fork_part g (m.height r) (boundary_votes (m.votes r)) (m.fork_votes s) (m.fork s))
   pub next : m.next t ≡ m.height r + voting_length g
   pub brings : m.fork_votes t ≡ first_count (pos soft_fork_vote) (entries (seeded (m.votes r)))
 

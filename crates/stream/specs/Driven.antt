@@ -5,15 +5,15 @@ use Rattle.voting.specs.declared.settings.Network.TheVariants.{Mainnet}
 use Rattle.voting.specs.Settings.{voting_length, mainnet}
 use Rattle.voting.specs.Table.{default_parameters}
 use Rattle.archive.specs.declared.replay.Replay.{Replay}
-use Rattle.archive.specs.Replay.{open_of}
+use Rattle.voting.specs.Tally.{no_tally}
 use Rattle.stream.specs.declared.run.Run.{Run}
 use Rattle.stream.specs.Lines.{head_line, line_most}
 use Rattle.stream.specs.Stream.{joined}
 use Rattle.stream.specs.Run.{prints, ahead, Ready, feed_of, finish_of}
 
--- The state that program `replay` opens with: at mainnet's first epoch, with mainnet's first table.
+-- The state that program `replay` opens with (`open_of` gives it, by the law `opens-so`): at mainnet's first epoch, with mainnet's first table.
 unfoldable pub mainnet_start : Replay
-mainnet_start = (open_of (voting_length mainnet) (default_parameters Mainnet)).state
+mainnet_start = record { settings = mainnet; table = default_parameters Mainnet; next = voting_length mainnet; tally = no_tally }
 
 -- What program `replay` prints for an input.
 unfoldable pub replay_prints : List ℕ → List ℕ

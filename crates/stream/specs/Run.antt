@@ -1,16 +1,19 @@
 -- A run over an input that comes in pieces: the library's calls, and what they mean. docs/RULES.md, "Replay".
 -- Assumes nothing.
-use Rattle.std.specs.Prelude.{◌≡◌, ℕ, zero, suc, ◌+◌, ◌-◌, ◌*◌, ◌%◌, ◌^◌, ◌<◌, ◌≤◌, Bool, true, false, cond, ◌||◌, List, [], ◌++◌, length, take, drop, ◌==◌, nat_lt}
-use Rattle.codec.specs.Refusal.{entry_differs, output_short, record_malformed}
+use Rattle.std.specs.Prelude.{Result, Ok, Err, ◌≡◌, ℕ, zero, suc, ◌+◌, ◌-◌, ◌*◌, ◌%◌, ◌^◌, ◌<◌, ◌≤◌, Bool, true, false, cond, ◌||◌, List, [], ◌++◌, length, take, drop, ◌==◌, nat_lt}
+use Rattle.codec.specs.declared.refusal.Refusal.TheVariants.{OutputShort, RecordMalformed}
 use Rattle.voting.specs.declared.settings.VotingConfig.{VotingConfig}
 use Rattle.voting.specs.Settings.{voting_length}
-use Rattle.archive.specs.declared.record.RecordAt.{RecordAt}
-use Rattle.archive.specs.declared.record.RecordAt.TheVariants.{Whole, Short, Malformed}
+use Rattle.codec.specs.declared.refusal.Refusal.{Refusal}
+use Rattle.codec.specs.Refusal.{number}
+use Rattle.codec.specs.Check.{Check, passed, and_then}
+use Rattle.archive.specs.declared.record.RecordPlace.{RecordPlace}
+use Rattle.archive.specs.declared.record.Unread.{Unread}
+use Rattle.archive.specs.declared.record.Unread.TheVariants.{Short, Malformed}
 use Rattle.archive.specs.declared.replay.Replay.{Replay}
-use Rattle.archive.specs.declared.replay.Verdict.{Verdict}
-use Rattle.archive.specs.declared.replay.Verdict.TheVariants.{Accepted, Refused, Mismatch}
+use Rattle.archive.specs.declared.replay.Rejection.{Rejection}
 use Rattle.archive.specs.Record.{body_most, record_at}
-use Rattle.archive.specs.Replay.{votes_size, replay_of}
+use Rattle.archive.specs.Replay.{votes_size, replay_of, rejection_number}
 use Rattle.archive.specs.Rounds.{record_height}
 use Rattle.stream.specs.declared.run.Run.{Run}
 use Rattle.stream.specs.declared.run.Took.{Took}
@@ -23,22 +26,21 @@ use Rattle.stream.specs.Stream.{At, whole, short, malformed, Step, goes, stops, 
 -- ---- what is printed for an input of the archive's records
 
 -- no further field can follow the three of a record
-unfoldable pub end_of : RecordAt → At
-end_of (Whole p) = whole p.end
-end_of (Short k) = short k
-end_of Malformed = malformed
+unfoldable pub end_of : Result RecordPlace Unread → At
+end_of (Ok p) = whole p.end
+end_of (Err (Short k)) = short k
+end_of (Err Malformed) = malformed
 
 unfoldable pub end_at : VotingConfig → List ℕ → At
 end_at g bytes = end_of (record_at bytes (votes_size g))
 
 -- what a record does to the replay's state
-unfoldable pub step_by : ℕ → Verdict → Replay → Step Replay
-step_by height Accepted s = goes s (epoch_line height s.table.fork)
-step_by height (Refused n) s = stops n
-step_by height (Mismatch id) s = stops entry_differs
+unfoldable pub step_by : ℕ → Result Replay Rejection → Step Replay
+step_by height (Ok s) = goes s (epoch_line height s.table.fork)
+step_by height (Err e) = stops (rejection_number e)
 
 unfoldable pub step_of : Replay → List ℕ → Step Replay
-step_of s bytes = step_by (record_height (record_at bytes (votes_size s.settings))) (replay_of s bytes).verdict (replay_of s bytes).state
+step_of s bytes = step_by (record_height (record_at bytes (votes_size s.settings))) (replay_of s bytes)
 
 -- the whole output, from a state on
 unfoldable pub prints : Replay → List ℕ → List ℕ
@@ -100,21 +102,20 @@ abbrev pub ends_by : Run → ℕ → ℕ → Took
 ends_by r used n = record { run = ended r; used = used; print = End (record { accepted = r.accepted; refusal = n }) }
 
 -- the count is a number of 32 bits
-unfoldable pub after_replay : Run → (height used : ℕ) → Verdict → Replay → Took
-after_replay r height used Accepted s =
+unfoldable pub after_replay : Run → (height used : ℕ) → Result Replay Rejection → Took
+after_replay r height used (Ok s) =
     record {
       run = record { replay = s; accepted = (r.accepted + 1) % 2 ^ 32; filled = 0; over = false };
       used = used;
       print = Epoch (record { height = height; fork = s.table.fork });
     }
-after_replay r height used (Refused n) s = ends_by r used n
-after_replay r height used (Mismatch id) s = ends_by r used entry_differs
+after_replay r height used (Err e) = ends_by r used (rejection_number e)
 
 -- by what the bytes so far are, with those that were taken
-unfoldable pub after_bytes : Run → List ℕ → ℕ → RecordAt → Took
-after_bytes r bytes used (Whole p) = after_replay r p.height used (replay_of r.replay bytes).verdict (replay_of r.replay bytes).state
-after_bytes r bytes used (Short k) = waits_with r (length bytes) used
-after_bytes r bytes used Malformed = ends_by r used record_malformed
+unfoldable pub after_bytes : Run → List ℕ → ℕ → Result RecordPlace Unread → Took
+after_bytes r bytes used (Ok p) = after_replay r p.height used (replay_of r.replay bytes)
+after_bytes r bytes used (Err (Short k)) = waits_with r (length bytes) used
+after_bytes r bytes used (Err Malformed) = ends_by r used (number RecordMalformed)
 
 abbrev pub on_bytes : Run → List ℕ → ℕ → Took
 on_bytes r bytes used = after_bytes r bytes used (record_at bytes (votes_size r.replay.settings))
@@ -131,59 +132,59 @@ took_cells r cells piece =
 
 -- ---- the calls
 
--- what a call leaves: a refusal's number or 0, the run and its buffer, how many bytes of the piece were taken, and the text that was written
+-- what a call leaves: whether it passed, the run and its buffer, how many bytes of the piece were taken, and the text that was written
 pub record After : Type 0 where
-  pub refusal : ℕ
+  pub check : Check
   pub run : Run
   pub cells : List ℕ
   pub used : ℕ
   pub text : List ℕ
 
 -- nothing is taken, and nothing written
-abbrev pub stands : ℕ → Run → List ℕ → After
-stands n r cells = record { refusal = n; run = r; cells = cells; used = 0; text = [] }
+abbrev pub stands : Check → Run → List ℕ → After
+stands c r cells = record { check = c; run = r; cells = cells; used = 0; text = [] }
 
 -- after bytes that were taken and a text that was written before
 unfoldable pub behind : ℕ → List ℕ → After → After
-behind used text a = record { refusal = a.refusal; run = a.run; cells = a.cells; used = used + a.used; text = text ++ a.text }
+behind used text a = record { check = a.check; run = a.run; cells = a.cells; used = used + a.used; text = text ++ a.text }
 
 -- records one after another, so many at most; none where the piece is used up, or where a line might find no room
 unfoldable pub feed_by : ℕ → ℕ → Run → List ℕ → List ℕ → After
-feed_by zero room r cells piece = stands 0 r cells
+feed_by zero room r cells piece = stands passed r cells
 feed_by (suc k) room r cells piece =
-    cond (length piece == 0 || nat_lt room line_most) (stands 0 r cells)
+    cond (length piece == 0 || nat_lt room line_most) (stands passed r cells)
     (behind (took_of r cells piece).used (text_of (took_of r cells piece).print)
     (feed_by k (room - length (text_of (took_of r cells piece).print)) (took_of r cells piece).run (took_cells r cells piece) (drop (took_of r cells piece).used piece)))
 
 -- a ready run takes a byte at least each time, so that as many as there are bytes are enough
 unfoldable pub feed_of : Run → List ℕ → List ℕ → ℕ → After
-feed_of r cells piece room = cond (too_short r (length cells) room) (stands output_short r cells) (feed_by (length piece) room r cells piece)
+feed_of r cells piece room = cond (too_short r (length cells) room) (stands (Err OutputShort) r cells) (feed_by (length piece) room r cells piece)
 
 -- the last line; after the end there is no second one
 unfoldable pub last_by : Run → List ℕ → ℕ → After
-last_by r cells n = cond r.over (stands 0 r cells) (record { refusal = 0; run = ended r; cells = cells; used = 0; text = end_line r.accepted n })
+last_by r cells n = cond r.over (stands passed r cells) (record { check = passed; run = ended r; cells = cells; used = 0; text = end_line r.accepted n })
 
 unfoldable pub last_of : Run → List ℕ → ℕ → ℕ → After
-last_of r cells n room = cond (too_short r (length cells) room) (stands output_short r cells) (last_by r cells n)
+last_of r cells n room = cond (too_short r (length cells) room) (stands (Err OutputShort) r cells) (last_by r cells n)
 
 -- the end of the input: one that stops inside a record is malformed
 abbrev pub finish_of : Run → List ℕ → ℕ → After
-finish_of r cells room = last_of r cells (cond (r.filled == 0) 0 record_malformed) room
+finish_of r cells room = last_of r cells (cond (r.filled == 0) 0 (number RecordMalformed)) room
 
 -- an input that can't be read on
 abbrev pub fail_of : Run → List ℕ → ℕ → After
-fail_of r cells room = last_of r cells record_malformed room
+fail_of r cells room = last_of r cells (number RecordMalformed) room
 
 -- what the code answers
-abbrev pub fed_of : After → Fed
-fed_of a = record { refusal = a.refusal; run = a.run; used = a.used; wrote = length a.text }
+abbrev pub fed_of : After → Result Fed Refusal
+fed_of a = and_then a.check (λ _. Ok (record { run = a.run; used = a.used; wrote = length a.text }))
 
 -- ---- what the calls mean
 
 -- a piece that is handed to a ready run, with room for a line. It is not refused. It takes a byte at least; and all of them, or no further line
 -- might find room. Nothing of what is to be printed is lost: the text, and what the run then prints for the rest of the input
 pub record Feeds (r : Run) (cells piece : List ℕ) (room : ℕ) (a : After) : Type 0 where
-  pub passes : a.refusal ≡ 0
+  pub passes : a.check ≡ passed
   pub inside : a.used ≤ length piece
   pub moves : line_most ≤ room → 0 < length piece → 0 < a.used
   pub fits : length a.text ≤ room
@@ -193,7 +194,7 @@ pub record Feeds (r : Run) (cells piece : List ℕ) (room : ℕ) (a : After) : T
 
 -- the end: all that is left to print is written, and the run is over
 pub record Ends (r : Run) (cells : List ℕ) (room : ℕ) (a : After) : Type 0 where
-  pub passes : a.refusal ≡ 0
+  pub passes : a.check ≡ passed
   pub fits : length a.text ≤ room
   pub is-over : a.run.over ≡ true
   pub all : ahead r cells [] ≡ a.text

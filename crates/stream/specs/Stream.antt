@@ -2,7 +2,8 @@
 -- The definitions are over any reading of a record's end, any state and any step.
 -- Assumes nothing.
 use Rattle.std.specs.Prelude.{◌≡◌, ℕ, zero, suc, ◌+◌, List, [], ◌∷◌, ◌++◌, length, take, drop}
-use Rattle.codec.specs.Refusal.{record_malformed}
+use Rattle.codec.specs.declared.refusal.Refusal.TheVariants.{RecordMalformed}
+use Rattle.codec.specs.Refusal.{number}
 use Rattle.stream.specs.Lines.{head_line, end_line}
 
 -- the record that bytes begin with: it is whole and ends there; it ends there, with the bytes, unless a further field follows; at least so many
@@ -28,8 +29,8 @@ module _ {S : Type 0} (at : List ℕ → At) (step : S → List ℕ → Step S) 
   unfoldable pub after_at : At → S → ℕ → (S → ℕ → List ℕ → List ℕ) → List ℕ → List ℕ
   after_at (whole e) s n rest input = after_step (step s (take e input)) n rest (drop e input)
   after_at (unless e) s n rest input = after_step (step s (take e input)) n rest (drop e input)
-  after_at (short k) s n rest input = end_line n record_malformed
-  after_at malformed s n rest input = end_line n record_malformed
+  after_at (short k) s n rest input = end_line n (number RecordMalformed)
+  after_at malformed s n rest input = end_line n (number RecordMalformed)
 
   -- what is printed for the input from here on. Every record has bytes, so that with a number above the input's length the first line is
   -- never met

@@ -5,12 +5,12 @@ ghost use Rattle.codec.specs.Put.{Put};
 ghost use Rattle.codec.specs.Decimal.{digits};
 ghost use Rattle.stream.specs.Lines.{decimal, column, head_line, epoch_line, end_line, line_most};
 
-use codec::output::Wrote;
-use codec::{decimal, output, refusal};
+use codec::refusal::Refusal;
+use codec::{decimal, output};
 use voting::table::{Fork, Value};
 
 // Writes the first line.
-pub fn write_head(out: &mut [u8]) -> Wrote
+pub fn write_head(out: &mut [u8]) -> Result<usize, Refusal>
     ensures { outcome result out.new ≡ writes head_line out.old }
 {
     let text = *b"height version start votes\n";
@@ -18,7 +18,7 @@ pub fn write_head(out: &mut [u8]) -> Wrote
 }
 
 // Writes the line of an accepted epoch.
-pub fn write_epoch(height: u32, fork: Fork, out: &mut [u8]) -> Wrote
+pub fn write_epoch(height: u32, fork: Fork, out: &mut [u8]) -> Result<usize, Refusal>
     ensures { outcome result out.new ≡ writes (epoch_line height fork) out.old }
 {
     let mut text = [0u8; 64];
@@ -27,7 +27,7 @@ pub fn write_epoch(height: u32, fork: Fork, out: &mut [u8]) -> Wrote
 }
 
 // Writes the last line.
-pub fn write_end(accepted: u32, refusal: u8, out: &mut [u8]) -> Wrote
+pub fn write_end(accepted: u32, refusal: u8, out: &mut [u8]) -> Result<usize, Refusal>
     ensures { outcome result out.new ≡ writes (end_line accepted refusal) out.old }
 {
     let mut text = [0u8; 64];
@@ -36,15 +36,15 @@ pub fn write_end(accepted: u32, refusal: u8, out: &mut [u8]) -> Wrote
 }
 
 // A text that stands at the start of a scratch buffer, handed out whole or refused.
-fn hand_out(out: &mut [u8], text: &[u8], n: usize) -> Wrote
+fn hand_out(out: &mut [u8], text: &[u8], n: usize) -> Result<usize, Refusal>
     requires { n ≤ length text.now }
     ensures { outcome result out.new ≡ writes (take n text.now) out.old }
 {
     if out.len() < n {
-        return Wrote::Refused(refusal::OUTPUT_SHORT);
+        return Err(Refusal::OutputShort);
     }
     output::put_bytes(out, 0, &text[..n]);
-    Wrote::Bytes(n)
+    Ok(n)
 }
 
 fn put_epoch(out: &mut [u8], height: u32, fork: Fork) -> usize

@@ -1,10 +1,9 @@
 // A run over an input of records that comes in pieces. docs/RULES.md, "Replay".
-ghost use Rattle.std.specs.Prelude.{◌≡◌, ◌+◌, ◌≤◌, ◌||◌, length, take, ◌==◌, nat_lt};
+ghost use Rattle.std.specs.Prelude.{IfOk, ◌≡◌, ◌+◌, ◌≤◌, ◌||◌, length, take, ◌==◌, nat_lt};
 ghost use Rattle.codec.specs.Output.{outcome, writes, written};
 ghost use Rattle.voting.specs.Settings.{voting_length, mainnet};
 ghost use Rattle.archive.specs.Record.{record_at};
 ghost use Rattle.archive.specs.Replay.{votes_size};
-ghost use Rattle.archive.specs.declared.replay.Verdict.TheVariants.{Accepted};
 ghost use Rattle.stream.specs.Lines.{line_most};
 ghost use Rattle.stream.specs.declared.run.Print.TheVariants.{Nothing, End};
 ghost use Rattle.stream.specs.Stream.{missing};
@@ -13,11 +12,11 @@ ghost use Rattle.stream.specs.Run.{prints, end_at, begun, longest_record, too_sh
 ghost use Rattle.stream.specs.Driven.{mainnet_start, replay_prints, Begins};
 
 use crate::lines;
-use archive::record::RecordAt;
-use archive::replay::{Replay, Replayed, Verdict};
+use archive::record::{RecordPlace, Unread};
+use archive::replay::{Rejection, Replay};
 use archive::{record, replay};
-use codec::output::Wrote;
-use codec::{output, refusal};
+use codec::output;
+use codec::refusal::Refusal;
 use voting::settings::{MAINNET_VOTING_LENGTH, Network};
 use voting::table;
 use voting::table::Fork;
@@ -71,10 +70,9 @@ struct Took {
     print: Print,
 }
 
-// 21 or 0, the next state, how many bytes of the piece were taken, and how many bytes of text stand at the start of the output.
+// The next state, how many bytes of the piece were taken, and how many bytes of text stand at the start of the output.
 #[derive(Clone, Copy)]
 pub struct Fed {
-    pub refusal: u8,
     pub run: Run,
     pub used: usize,
     pub wrote: usize,
@@ -102,42 +100,38 @@ pub fn begin_mainnet() -> Run
         MAINNET_VOTING_LENGTH,
         table::default_parameters(Network::Mainnet),
     );
-    let state = opened.state;
-    begin(state)
+    begin(opened.unwrap())
 }
 
 // Takes bytes of a piece into a run and the buffer that belongs to it, as long as their lines find room in `out`, and writes the lines from its
 // start.
-pub fn feed(run: Run, cells: &mut [u8], piece: &[u8], out: &mut [u8]) -> Fed
+pub fn feed(run: Run, cells: &mut [u8], piece: &[u8], out: &mut [u8]) -> Result<Fed, Refusal>
     ensures value { result ≡ fed_of (feed_of run cells.old piece.now (length out.old)) }
     ensures lent { cells.new ≡ (feed_of run cells.old piece.now (length out.old)).cells }
     ensures lines { out.new ≡ written (feed_of run cells.old piece.now (length out.old)).text out.old }
     ensures feeds { Ready run cells.old → line_most ≤ length out.old → Feeds run cells.old piece.now (length out.old) (feed_of run cells.old piece.now (length out.old)) }
-    ensures inside { (result.used ≤ length piece.now) × (result.wrote ≤ length out.old) }
+    ensures inside { IfOk result (λ fed. (fed.used ≤ length piece.now) × (fed.wrote ≤ length out.old)) }
 {
     if too_short(run, cells.len(), out.len()) {
-        return stopped(run, 0, 0, refusal::OUTPUT_SHORT);
+        return Err(Refusal::OutputShort);
     }
     let mut state = run;
     let mut at: usize = 0;
     let mut wrote: usize = 0;
-    let mut turns = piece.len();
-    while 0 < turns {
+    for _ in 0..piece.len() {
         if no_more(piece.len() - at, out.len() - wrote) {
-            return stopped(state, at, wrote, 0);
+            break;
         }
         let took = take_record(state, cells, &piece[at..]);
-        let print = took.print;
         state = took.run;
-        wrote = add(out, wrote, print);
+        wrote = add(out, wrote, took.print);
         at += took.used;
-        turns -= 1;
     }
-    stopped(state, at, wrote, 0)
+    Ok(stopped(state, at, wrote))
 }
 
 // The end of the input: writes the last line. The buffer of the run is lent as to `feed`.
-pub fn finish(run: Run, cells: &[u8], out: &mut [u8]) -> Fed
+pub fn finish(run: Run, cells: &[u8], out: &mut [u8]) -> Result<Fed, Refusal>
     ensures value { result ≡ fed_of (finish_of run cells.now (length out.old)) }
     ensures lines { out.new ≡ written (finish_of run cells.now (length out.old)).text out.old }
     ensures ends { Ready run cells.now → line_most ≤ length out.old → Ends run cells.now (length out.old) (finish_of run cells.now (length out.old)) }
@@ -145,49 +139,43 @@ pub fn finish(run: Run, cells: &[u8], out: &mut [u8]) -> Fed
     if run.filled == 0 {
         return last(run, cells, 0, out);
     }
-    last(run, cells, refusal::RECORD_MALFORMED, out)
+    last(run, cells, Refusal::RecordMalformed.number(), out)
 }
 
 // An input that can't be read on: writes the last line.
-pub fn fail(run: Run, cells: &[u8], out: &mut [u8]) -> Fed
+pub fn fail(run: Run, cells: &[u8], out: &mut [u8]) -> Result<Fed, Refusal>
     ensures value { result ≡ fed_of (fail_of run cells.now (length out.old)) }
     ensures lines { out.new ≡ written (fail_of run cells.now (length out.old)).text out.old }
 {
-    last(run, cells, refusal::RECORD_MALFORMED, out)
+    last(run, cells, Refusal::RecordMalformed.number(), out)
 }
 
-fn last(run: Run, cells: &[u8], n: u8, out: &mut [u8]) -> Fed
+fn last(run: Run, cells: &[u8], n: u8, out: &mut [u8]) -> Result<Fed, Refusal>
     ensures value { result ≡ fed_of (last_of run cells.now n (length out.old)) }
     ensures lines { out.new ≡ written (last_of run cells.now n (length out.old)).text out.old }
 {
     if too_short(run, cells.len(), out.len()) {
-        return stopped(run, 0, 0, refusal::OUTPUT_SHORT);
+        return Err(Refusal::OutputShort);
     }
     if run.over {
-        return stopped(run, 0, 0, 0);
+        return Ok(stopped(run, 0, 0));
     }
     let wrote = add(out, 0, end_print(run, n));
-    stopped(end_run(run), 0, wrote, 0)
+    Ok(stopped(end_run(run), 0, wrote))
 }
 
-fn stopped(run: Run, used: usize, wrote: usize, refusal: u8) -> Fed
-    ensures { result ≡ record { refusal = refusal; run = run; used = used; wrote = wrote } }
+fn stopped(run: Run, used: usize, wrote: usize) -> Fed
+    ensures { result ≡ record { run = run; used = used; wrote = wrote } }
 {
-    Fed {
-        refusal,
-        run,
-        used,
-        wrote,
-    }
+    Fed { run, used, wrote }
 }
 
 // A line might find no room, or the longest record; or the buffer does not have the bytes so far.
 fn too_short(run: Run, cells: usize, room: usize) -> bool
     ensures { result ≡ too_short run cells room }
 {
-    let s = run.replay;
-    let g = s.settings;
-    let longest = RECORD_REST + record::BODY_MOST + 3 * (g.voting_length as usize);
+    let length = run.replay.settings.voting_length as usize;
+    let longest = RECORD_REST + record::BODY_MOST + 3 * length;
     (room < LINE_MOST) | (cells < longest) | (cells < run.filled)
 }
 
@@ -204,19 +192,19 @@ fn add(out: &mut [u8], wrote: usize, print: Print) -> usize
     ensures { Added (text_of print) wrote result out.old out.new }
 {
     match print.write(&mut out[wrote..]) {
-        Wrote::Bytes(n) => wrote + n,
-        Wrote::Refused(_) => wrote,
+        Ok(n) => wrote + n,
+        Err(_) => wrote,
     }
 }
 
 impl Print {
     // Writes the line.
-    fn write(self, out: &mut [u8]) -> Wrote
+    fn write(self, out: &mut [u8]) -> Result<usize, Refusal>
         ensures out_after { outcome result out.new ≡ writes (text_of self) out.old }
         ensures short { length (text_of self) ≤ line_most }
     {
         match self {
-            Print::Nothing => Wrote::Bytes(0),
+            Print::Nothing => Ok(0),
             Print::Epoch(e) => {
                 let fork = e.fork;
                 lines::write_epoch(e.height, fork, out)
@@ -267,31 +255,24 @@ fn missing_of(run: Run, bytes: &[u8]) -> usize
     ensures { result ≡ missing (end_at run.replay.settings bytes.now) }
 {
     match record_of(run, bytes) {
-        RecordAt::Whole(_) => 0,
-        RecordAt::Short(k) => k,
-        RecordAt::Malformed => 0,
+        Err(Unread::Short(k)) => k,
+        _ => 0,
     }
 }
 
-fn record_of(run: Run, bytes: &[u8]) -> RecordAt
+fn record_of(run: Run, bytes: &[u8]) -> Result<RecordPlace, Unread>
     ensures { result ≡ record_at bytes.now (votes_size run.replay.settings) }
 {
-    let s = run.replay;
-    let g = s.settings;
-    record::read_record(bytes, 3 * (g.voting_length as usize))
+    record::read_record(bytes, 3 * (run.replay.settings.voting_length as usize))
 }
 
 fn on_bytes(run: Run, bytes: &[u8], used: usize) -> Took
     ensures { result ≡ on_bytes run bytes.now used }
 {
     match record_of(run, bytes) {
-        RecordAt::Whole(p) => {
-            let s = run.replay;
-            let x = s.replay(bytes);
-            after_replay(run, p.height, used, x)
-        }
-        RecordAt::Short(_) => waits(run, bytes.len(), used),
-        RecordAt::Malformed => ends_by(run, used, refusal::RECORD_MALFORMED),
+        Ok(p) => after_replay(run, p.height, used, run.replay.replay(bytes)),
+        Err(Unread::Short(_)) => waits(run, bytes.len(), used),
+        Err(Unread::Malformed) => ends_by(run, used, Refusal::RecordMalformed.number()),
     }
 }
 
@@ -311,23 +292,19 @@ fn waits(run: Run, filled: usize, used: usize) -> Took
     }
 }
 
-fn after_replay(run: Run, height: u32, used: usize, x: Replayed) -> Took
-    ensures { result ≡ after_replay run height used x.verdict x.state }
+fn after_replay(run: Run, height: u32, used: usize, x: Result<Replay, Rejection>) -> Took
+    ensures { result ≡ after_replay run height used x }
 {
-    let replay = x.state;
-    let verdict = x.verdict;
-    match verdict {
-        Verdict::Accepted => goes_on(run, height, used, replay),
-        Verdict::Refused(n) => ends_by(run, used, n),
-        Verdict::Mismatch(_) => ends_by(run, used, refusal::ENTRY_DIFFERS),
+    match x {
+        Ok(replay) => goes_on(run, height, used, replay),
+        Err(e) => ends_by(run, used, e.number()),
     }
 }
 
 fn goes_on(run: Run, height: u32, used: usize, replay: Replay) -> Took
-    ensures { result ≡ after_replay run height used Accepted replay }
+    ensures { result ≡ after_replay run height used (Ok replay) }
 {
-    let table = replay.table;
-    let fork = table.fork;
+    let fork = replay.table.fork;
     Took {
         run: Run {
             replay,

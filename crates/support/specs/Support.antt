@@ -1,6 +1,6 @@
 -- Support: how many of the last headers vote for an id. docs/RULES.md, "Support".
 -- Assumes nothing.
-use Rattle.std.specs.Prelude.{◌≡◌, ℕ, ◌-◌, cond, List, [], ◌∷◌, length, drop, ◌==◌}
+use Rattle.std.specs.Prelude.{is_ok, ◌≡◌, ℕ, ◌-◌, cond, List, [], ◌∷◌, length, drop, ◌==◌}
 use Rattle.counting.specs.Count.{count}
 use Rattle.voting.specs.Common.{Bytes}
 use Rattle.voting.specs.Header.{check_header_votes, votes_for}
@@ -12,7 +12,7 @@ IsHeader votes = (length votes ≡ 3) × Bytes votes
 -- the headers that the header check accepts, in order
 unfoldable pub accepted : List (List ℕ) → List (List ℕ)
 accepted [] = []
-accepted (votes ∷ headers) = cond (check_header_votes votes == 0) (votes ∷ accepted headers) (accepted headers)
+accepted (votes ∷ headers) = cond (is_ok (check_header_votes votes)) (votes ∷ accepted headers) (accepted headers)
 
 -- the last n of a list, or all of it while it has fewer
 abbrev pub last : {A : Type 0} → ℕ → List A → List A

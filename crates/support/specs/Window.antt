@@ -1,11 +1,12 @@
 -- A window in cells: what its calls answer and leave, for every window and all cells. docs/RULES.md, "Support", "In cells".
 -- Assumes nothing.
-use Rattle.std.specs.Prelude.{ℕ, zero, suc, ◌+◌, ◌*◌, ◌%◌, cond, ◌&&◌, List, ◌++◌, length, drop, replicate, ◌==◌, nat_le, nat_lt, slice_index, slice_set}
-use Rattle.codec.specs.Refusal.{output_short, window_length_outside}
-use Rattle.voting.specs.Common.{first}
+use Rattle.std.specs.Prelude.{Result, Ok, Err, ℕ, ◌+◌, ◌*◌, ◌%◌, cond, ◌&&◌, List, ◌++◌, length, drop, replicate, ◌==◌, nat_le, nat_lt, slice_index, slice_set}
+use Rattle.codec.specs.declared.refusal.Refusal.TheVariants.{OutputShort, WindowLengthOutside}
+use Rattle.std.specs.Result.{result_and}
+use Rattle.codec.specs.declared.refusal.Refusal.{Refusal}
+use Rattle.codec.specs.Check.{Check, passed}
 use Rattle.voting.specs.Header.{check_header_votes}
 use Rattle.support.specs.declared.window.Window.{Window}
-use Rattle.support.specs.declared.window.Answer.{Answer}
 
 -- the greatest length
 abbrev pub length_most : ℕ
@@ -17,15 +18,15 @@ cell_of place = 256 + 3 * place
 
 -- an answer, and the cells that the call leaves
 pub record Left : Type 0 where
-  pub answer : Answer
+  pub answer : Result Window Refusal
   pub cells : List ℕ
 
-abbrev pub left : Answer → List ℕ → Left
+abbrev pub left : Result Window Refusal → List ℕ → Left
 left a cells = record { answer = a; cells = cells }
 
 -- 21 unless the length is in its range, the oldest's place in the window, and the window in the cells
-unfoldable pub room_refusal : Window → ℕ → ℕ
-room_refusal w room = cond (nat_lt w.oldest w.length && nat_le w.length length_most && nat_le (cell_of w.length) room) 0 output_short
+unfoldable pub check_room : Window → ℕ → Check
+check_room w room = cond (nat_lt w.oldest w.length && nat_le w.length length_most && nat_le (cell_of w.length) room) passed (Err OutputShort)
 
 -- ---- a new window
 
@@ -34,16 +35,16 @@ abbrev pub empty : ℕ → Window
 empty n = record { length = n; held = 0; oldest = 0 }
 
 -- 33, then 21
-unfoldable pub new_refusal : ℕ → ℕ → ℕ
-new_refusal n room = first (cond (nat_le 1 n && nat_le n length_most) 0 window_length_outside) (room_refusal (empty n) room)
+unfoldable pub check_new : ℕ → ℕ → Check
+check_new n room = result_and (cond (nat_le 1 n && nat_le n length_most) passed (Err WindowLengthOutside)) (check_room (empty n) room)
 
--- all its cells are 0; refused, a window of length 0, which takes no header, and the cells as they were
-unfoldable pub new_by : ℕ → ℕ → List ℕ → Left
-new_by zero n cells = left (record { refusal = 0; window = empty n }) (replicate (cell_of n) 0 ++ drop (cell_of n) cells)
-new_by (suc e) n cells = left (record { refusal = suc e; window = empty 0 }) cells
+-- all its cells are 0; refused, the cells as they were
+unfoldable pub new_by : Check → ℕ → List ℕ → Left
+new_by (Ok _) n cells = left (Ok (empty n)) (replicate (cell_of n) 0 ++ drop (cell_of n) cells)
+new_by (Err e) n cells = left (Err e) cells
 
 unfoldable pub new_of : ℕ → List ℕ → Left
-new_of n cells = new_by (new_refusal n (length cells)) n cells
+new_of n cells = new_by (check_new n (length cells)) n cells
 
 -- ---- a header is put
 
@@ -78,13 +79,13 @@ unfoldable pub onward : Window → Window
 onward w = record { length = w.length; held = more_held w.held w.length; oldest = place_after w.oldest w.length }
 
 -- 9, 10 or 11, then 21
-unfoldable pub put_refusal : Window → ℕ → List ℕ → ℕ
-put_refusal w room votes = first (check_header_votes votes) (room_refusal w room)
+unfoldable pub check_put : Window → ℕ → List ℕ → Check
+check_put w room votes = result_and (check_header_votes votes) (check_room w room)
 
 -- the header takes the oldest's place; refused, nothing changes
-unfoldable pub put_by : ℕ → Window → List ℕ → List ℕ → Left
-put_by zero w cells votes = left (record { refusal = 0; window = onward w }) (entered cells (cell_of w.oldest) votes)
-put_by (suc e) w cells votes = left (record { refusal = suc e; window = w }) cells
+unfoldable pub put_by : Check → Window → List ℕ → List ℕ → Left
+put_by (Ok _) w cells votes = left (Ok (onward w)) (entered cells (cell_of w.oldest) votes)
+put_by (Err e) w cells votes = left (Err e) cells
 
 unfoldable pub put_of : Window → List ℕ → List ℕ → Left
-put_of w cells votes = put_by (put_refusal w (length cells) votes) w cells votes
+put_of w cells votes = put_by (check_put w (length cells) votes) w cells votes

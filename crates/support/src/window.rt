@@ -1,10 +1,10 @@
 // A running window over the last headers, and the support of each id in it. docs/RULES.md, "Support".
 ghost use Rattle.std.specs.Prelude.{◌≡◌, ◌+◌, ◌%◌, ◌<◌, ◌≤◌, ◌&&◌, ◌++◌, length, drop, replicate, if◌then◌else◌, ◌==◌, nat_eq, slice_index};
 ghost use Rattle.voting.specs.Header.{check_header_votes};
-ghost use Rattle.support.specs.Window.{cell_of, left, room_refusal, empty, new_refusal, new_of, added, replaced, entered, more_held, place_after, onward, put_refusal, put_of};
+ghost use Rattle.support.specs.Window.{cell_of, left, check_room, empty, check_new, new_of, added, replaced, entered, more_held, place_after, onward, check_put, put_of};
 ghost use Rattle.support.specs.Kept.{SupportKept};
 
-use codec::refusal;
+use codec::refusal::Refusal;
 use voting::header;
 
 // The greatest length.
@@ -25,84 +25,56 @@ pub struct Window {
     pub oldest: u16,
 }
 
-// A refusal's number, or 0, and the window after the call.
-#[derive(Clone, Copy)]
-pub struct Answer {
-    pub refusal: u8,
-    pub window: Window,
-}
-
 // Makes a window of a length in lent cells: 33, 21. Hand it and its cells to each call as the call before left them; cell b is then the
 // support of the byte b.
-pub fn new(length: u32, cells: &mut [u16]) -> Answer
+pub fn new(length: u32, cells: &mut [u16]) -> Result<Window, Refusal>
     ensures cells_after { left result cells.new ≡ new_of length cells.old }
     ensures support { SupportKept length (left result cells.new) }
 {
-    let e = new_refusal(length, cells.len());
-    if e != 0 {
-        return Answer {
-            refusal: e,
-            window: empty(0),
-        };
-    }
+    check_new(length, cells.len())?;
     let n = length as u16;
     clear(cells, cell_of(n));
-    Answer {
-        refusal: 0,
-        window: empty(n),
-    }
+    Ok(empty(n))
 }
 
 impl Window {
-    // Puts a header: 9, 10, 11, 21. The oldest leaves once the window holds as many as it spans.
-    pub fn put(self, cells: &mut [u16], votes: [u8; 3]) -> Answer
+    // Puts a header: 9, 10, 11, 21. The oldest leaves once the window holds as many as it spans. Refused, the window and its cells stay.
+    pub fn put(self, cells: &mut [u16], votes: [u8; 3]) -> Result<Window, Refusal>
         ensures { left result cells.new ≡ put_of self cells.old votes }
     {
-        let e = put_refusal(self, cells.len(), votes);
-        if e != 0 {
-            return Answer {
-                refusal: e,
-                window: self,
-            };
-        }
+        check_put(self, cells.len(), votes)?;
         enter(cells, cell_of(self.oldest), votes);
-        Answer {
-            refusal: 0,
-            window: onward(self),
-        }
+        Ok(onward(self))
     }
 }
 
-fn new_refusal(length: u32, room: usize) -> u8
-    ensures { result ≡ new_refusal length room }
+fn check_new(length: u32, room: usize) -> Result<(), Refusal>
+    ensures { result ≡ check_new length room }
 {
     if (1 <= length) & (length <= (LENGTH_MOST as u32)) {
-        return room_refusal(empty(length as u16), room);
+        return check_room(empty(length as u16), room);
     }
-    refusal::WINDOW_LENGTH_OUTSIDE
+    Err(Refusal::WindowLengthOutside)
 }
 
-fn put_refusal(w: Window, room: usize, votes: [u8; 3]) -> u8
-    ensures { result ≡ put_refusal w room votes }
+fn check_put(w: Window, room: usize, votes: [u8; 3]) -> Result<(), Refusal>
+    ensures { result ≡ check_put w room votes }
 {
-    let e = header_refusal(votes);
-    if e != 0 {
-        return e;
-    }
-    room_refusal(w, room)
+    check_header(votes)?;
+    check_room(w, room)
 }
 
 // The header check. Most headers have no votes, and most of the others are legal, which a quicker test tells.
-fn header_refusal(votes: [u8; 3]) -> u8
+fn check_header(votes: [u8; 3]) -> Result<(), Refusal>
     ensures { result ≡ check_header_votes votes }
 {
     if no_votes(votes) {
-        return 0;
+        return Ok(());
     }
     if header::is_illegal(votes[0], votes[1], votes[2]) {
         return header::check_header_votes(votes);
     }
-    0
+    Ok(())
 }
 
 fn no_votes(votes: [u8; 3]) -> bool
@@ -118,13 +90,13 @@ fn all_zero(a: u16, b: u16, c: u16) -> bool
 }
 
 // 21 unless it is a window, and the cells hold it.
-fn room_refusal(w: Window, room: usize) -> u8
-    ensures { result ≡ room_refusal w room }
+fn check_room(w: Window, room: usize) -> Result<(), Refusal>
+    ensures { result ≡ check_room w room }
 {
     if (w.oldest < w.length) & (w.length <= LENGTH_MOST) & (cell_of(w.length) <= room) {
-        return 0;
+        return Ok(());
     }
-    refusal::OUTPUT_SHORT
+    Err(Refusal::OutputShort)
 }
 
 // Where the cells of a place begin; all the cells of a window of so many places.
@@ -149,11 +121,7 @@ fn clear(cells: &mut [u16], n: usize)
     requires { n ≤ length cells.old }
     ensures { cells.new ≡ replicate n 0 ++ drop n cells.old }
 {
-    let mut i: usize = 0;
-    while i < n {
-        cells[i] = 0;
-        i += 1;
-    }
+    cells[..n].fill(0);
 }
 
 // The header takes the place whose cells begin there.

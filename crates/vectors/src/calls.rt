@@ -1,7 +1,7 @@
 // The calls that rows ask, by name: the functions that C, Rust and Python call. An answer is the refusal's number and 256 times its id, or 0;
 // NO_ANSWER where no call has the name and as many arguments. A function has a few of the calls: a long one is slow to check.
 use crate::lists;
-use codec::output::Wrote;
+use codec::refusal::Refusal;
 use codec::signed;
 use exports::{body, boundary, replay, tables, update, votes, writing};
 use extension::boundary as on_values;
@@ -201,13 +201,10 @@ fn compute_boundary_parameters(
     computed(x, out)
 }
 
-fn computed(x: Computed, out: &mut [u8]) -> u16 {
-    if x.refusal != 0 {
-        return x.refusal as u16;
-    }
-    match wire_boundary::write_computed(x, out) {
-        Wrote::Bytes(_) => 0,
-        Wrote::Refused(e) => e as u16,
+fn computed(x: Result<Computed, Refusal>, out: &mut [u8]) -> u16 {
+    match x.and_then(|c| wire_boundary::write_computed(c, out)) {
+        Ok(_) => 0,
+        Err(e) => e.number() as u16,
     }
 }
 

@@ -57,12 +57,10 @@ pub(crate) fn lists_of(a: &[u8], b: &[u8], c: &[u8]) -> Lists {
     let mut rules = [0; 0x1_0001];
     let mut ids = [0; 0x1_0001];
     let mut sizes = [0; 0x1_0001];
-    let mut i: usize = 0;
-    while i < ITEMS_MOST {
+    for i in 0..ITEMS_MOST {
         rules[i] = u16_at(a, i);
         ids[i] = signed::i16_of(u16_at(b, i));
         sizes[i] = u32_at(c, i);
-        i += 1;
     }
     Lists { rules, ids, sizes }
 }

@@ -28,14 +28,9 @@ pub(crate) fn find(s: &[u8], from: usize, b: u8, has: bool) -> usize
     ensures upper_bound { result ≤ length s.now }
     ensures onward { from ≤ length s.now → from ≤ result }
 {
-    let mut i = from;
-    while i < s.len() {
-        if (s[i] == b) == has {
-            return i;
-        }
-        i += 1;
-    }
-    s.len()
+    (from..s.len())
+        .find(|i| (s[*i] == b) == has)
+        .unwrap_or(s.len())
 }
 
 // The value of a hexadecimal digit.
@@ -58,13 +53,7 @@ fn digit_at(s: &[u8], at: usize) -> u8 {
 
 // A decimal number; OUT_OF_FORM where it is none, or is beyond what a row can have.
 pub(crate) fn decimal(s: &[u8]) -> usize {
-    let mut n: usize = 0;
-    let mut i: usize = 0;
-    while i < s.len() {
-        n = with_digit(n, digit_at(s, i));
-        i += 1;
-    }
-    n
+    s.iter().fold(0, |n, b| with_digit(n, digit_of(*b)))
 }
 
 fn with_digit(n: usize, d: u8) -> usize {
@@ -82,25 +71,19 @@ fn put_hex(s: &[u8], bytes: &mut [u8; 0x8_0000], at: usize) -> usize {
     if (s.len() == 0) | (s.len() % 2 != 0) {
         return OUT_OF_FORM;
     }
-    let n = s.len() / 2;
     let mut to = at;
-    let mut i: usize = 0;
-    while i < n {
-        to = put_pair(s, i, bytes, to);
-        i += 1;
+    for pair in s.chunks_exact(2) {
+        to = put_pair(pair, bytes, to);
     }
     to
 }
 
-fn put_pair(s: &[u8], i: usize, bytes: &mut [u8; 0x8_0000], to: usize) -> usize {
-    if BYTES_MOST < i {
-        return OUT_OF_FORM;
-    }
+fn put_pair(pair: &[u8], bytes: &mut [u8; 0x8_0000], to: usize) -> usize {
     if BYTES_MOST <= to {
         return OUT_OF_FORM;
     }
-    let high = digit_at(s, 2 * i);
-    let low = digit_at(s, 2 * i + 1);
+    let high = digit_at(pair, 0);
+    let low = digit_at(pair, 1);
     if (high == NO_DIGIT) | (low == NO_DIGIT) {
         return OUT_OF_FORM;
     }
@@ -111,10 +94,8 @@ fn put_pair(s: &[u8], i: usize, bytes: &mut [u8; 0x8_0000], to: usize) -> usize 
 // The same so many times.
 fn put_times(s: &[u8], times: usize, bytes: &mut [u8; 0x8_0000], at: usize) -> usize {
     let mut to = at;
-    let mut left = times;
-    while 0 < left {
+    for _ in 0..times {
         to = put_hex(s, bytes, to);
-        left -= 1;
     }
     to
 }

@@ -7,7 +7,6 @@ pub mod Tally
 pub mod Settings
 pub mod Table
 pub mod Step
-pub mod Votes
 pub mod Ordinary
 pub mod Fork
 pub mod Boundary

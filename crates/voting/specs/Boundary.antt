@@ -1,21 +1,19 @@
 -- The boundary on values: fork part, ordinary votes, entry 9. docs/RULES.md, "Boundary".
 -- Assumes nothing.
-use Rattle.std.specs.Prelude.{ℕ, Bool, true, false, cond, not, ◌&&◌, List, ℤ, pos, None, Some}
+use Rattle.std.specs.Prelude.{Result, Ok, ℕ, Bool, true, false, cond, not, ◌&&◌, List, ℤ, pos, None, Some}
 use Rattle.voting.specs.declared.settings.VotingConfig.{VotingConfig}
 use Rattle.voting.specs.Value.{Value}
 use Rattle.voting.specs.declared.table.Table.{Table}
 use Rattle.voting.specs.declared.tally.Entry.{Entry}
 use Rattle.voting.specs.declared.boundary.Boundary.{Boundary}
-use Rattle.voting.specs.Common.{eq_z, gate}
+use Rattle.codec.specs.declared.refusal.Refusal.{Refusal}
+use Rattle.codec.specs.Check.{and_then}
+use Rattle.voting.specs.Common.{eq_z}
 use Rattle.voting.specs.Table.{id_subblocks_per_block, id_block_version, lookup, update, with_fork}
 use Rattle.voting.specs.Header.{soft_fork_vote}
 use Rattle.voting.specs.Tally.{first_count}
-use Rattle.voting.specs.ForkPart.{no_round, fork_part}
+use Rattle.voting.specs.ForkPart.{fork_part}
 use Rattle.voting.specs.Ordinary.{ordinary_votes}
-
--- refused: the old table, and nothing happens to a round
-abbrev pub refuses : Table → ℕ → Boundary
-refuses t n = record { refusal = n; table = t; round = no_round }
 
 -- an entry is this number; an entry is absent
 unfoldable pub is_number : Value → ℤ → Bool
@@ -42,11 +40,10 @@ with_subblocks disabled t =
 -- The height, the old table, the tally of the epoch before, whether the boundary header votes 120, and whether the proposed update disables rule
 -- 409: the fork part, with the count of the first entry for the fork (17 to 20); the ordinary votes, which read the table as it then stands (13
 -- and 14); entry 9.
-unfoldable pub boundary_of : VotingConfig → ℕ → Table → List Entry → Bool → Bool → Boundary
+unfoldable pub boundary_of : VotingConfig → ℕ → Table → List Entry → Bool → Bool → Result Boundary Refusal
 boundary_of g height t tally vote disables =
-    let part = fork_part g height vote (first_count (pos soft_fork_vote) tally) t.fork in
+    and_then (fork_part g height vote (first_count (pos soft_fork_vote) tally) t.fork)
+    (λ part.
     let from = with_fork t part.fork in
-    let votes = ordinary_votes g from tally from in
-    gate (refuses t) part.refusal
-    (gate (refuses t) votes.refusal
-    (record { refusal = 0; table = with_subblocks (part.round.rose && disables) votes.table; round = part.round }))
+    and_then (ordinary_votes g from tally from)
+    (λ voted. Ok (record { table = with_subblocks (part.round.rose && disables) voted; round = part.round })))

@@ -1,6 +1,6 @@
--- What several definitions of this crate use: tests of integers, refusals in order, and bytes.
+-- What several definitions of this crate use: tests of integers, lists and bytes.
 -- Assumes nothing.
-use Rattle.std.specs.Prelude.{ℕ, zero, suc, ◌<◌, Bool, false, List, [], ◌∷◌, ℤ, pos, negsuc, ◌==◌}
+use Rattle.std.specs.Prelude.{ℕ, ◌<◌, Bool, false, List, [], ◌∷◌, ℤ, pos, negsuc, ◌==◌}
 
 -- whether two integers are equal
 unfoldable pub eq_z : ℤ → ℤ → Bool
@@ -8,16 +8,6 @@ eq_z (pos a) (pos b) = a == b
 eq_z (pos a) (negsuc b) = false
 eq_z (negsuc a) (pos b) = false
 eq_z (negsuc a) (negsuc b) = a == b
-
--- of two refusal numbers the first that is not 0; 0 is no refusal
-unfoldable pub first : ℕ → ℕ → ℕ
-first zero m = m
-first (suc n) m = suc n
-
--- goes on where a refusal's number is 0, else refuses by it
-unfoldable pub gate : {A : Type 0} → (ℕ → A) → ℕ → A → A
-gate refuses zero x = x
-gate refuses (suc n) x = refuses (suc n)
 
 -- a statement of every element of a list
 abbrev pub Each : {A : Type 0} → (A → Type 0) → List A → Type 0

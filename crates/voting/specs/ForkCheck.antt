@@ -1,12 +1,11 @@
 -- The fork check of a header. docs/RULES.md, "Fork check".
 -- Assumes nothing.
-use Rattle.std.specs.Prelude.{ℕ, ◌+◌, ◌*◌, Bool, true, false, cond, not, ◌&&◌, ◌||◌, List, ℤ, pos, ◌+ℤ◌, int_le, int_lt, None, Some}
-use Rattle.codec.specs.Refusal.{fork_vote_barred, setting_large, votes_collected_absent}
+use Rattle.std.specs.Prelude.{Err, ℕ, ◌+◌, ◌*◌, Bool, true, false, cond, not, ◌&&◌, ◌||◌, List, ℤ, pos, ◌+ℤ◌, int_le, int_lt, None, Some}
+use Rattle.codec.specs.declared.refusal.Refusal.TheVariants.{ForkVoteBarred, SettingLarge, VotesCollectedAbsent}
 use Rattle.voting.specs.declared.settings.VotingConfig.{VotingConfig}
 use Rattle.voting.specs.Value.{Value}
 use Rattle.voting.specs.declared.table.Table.{Table}
-use Rattle.voting.specs.declared.fork.ForkVote.{ForkVote}
-use Rattle.voting.specs.declared.fork.ForkVote.TheVariants.{Allowed, Barred, Refused}
+use Rattle.codec.specs.Check.{Check, passed}
 use Rattle.voting.specs.Settings.{voting_length, vote_epochs, activation_epochs, soft_fork_approved, settings_large}
 use Rattle.voting.specs.Table.{id_starting_height, id_votes_collected, lookup}
 use Rattle.voting.specs.Header.{soft_fork_vote, votes_for}
@@ -25,22 +24,16 @@ barred g height start votes =
     (between g start height (vote_epochs g) (vote_epochs g + 1) && not (soft_fork_approved g votes))
     || (between g start height (vote_epochs g) (vote_epochs g + activation_epochs g + 1) && soft_fork_approved g votes)
 
--- with 122 and 121: allowed without 122, and 19 without 121
-unfoldable pub check_round : VotingConfig → ℕ → Value → Value → ForkVote
-check_round g height None votes = Allowed
-check_round g height (Some start) None = Refused votes_collected_absent
-check_round g height (Some start) (Some votes) = cond (barred g height start votes) Barred Allowed
+-- with 122 and 121: allowed without 122, and 19 without 121; a vote that is barred is 12
+unfoldable pub check_round : VotingConfig → ℕ → Value → Value → Check
+check_round g height None votes = passed
+check_round g height (Some start) None = Err VotesCollectedAbsent
+check_round g height (Some start) (Some votes) = cond (barred g height start votes) (Err ForkVoteBarred) passed
 
-unfoldable pub check_fork_vote : VotingConfig → ℕ → List ℕ → Table → ForkVote
+unfoldable pub check_fork_vote : VotingConfig → ℕ → List ℕ → Table → Check
 check_fork_vote g height votes t =
-    cond (settings_large g) (Refused setting_large)
-    (cond (votes_for soft_fork_vote votes) (check_round g height (lookup t id_starting_height) (lookup t id_votes_collected)) Allowed)
-
--- the number that turns a header down: a vote that is barred is 12
-unfoldable pub fork_refusal : ForkVote → ℕ
-fork_refusal Allowed = 0
-fork_refusal Barred = fork_vote_barred
-fork_refusal (Refused n) = n
+    cond (settings_large g) (Err SettingLarge)
+    (cond (votes_for soft_fork_vote votes) (check_round g height (lookup t id_starting_height) (lookup t id_votes_collected)) passed)
 
 -- every header below this height is allowed, since no round is open there or its votes are still collected
 unfoldable pub round_open : VotingConfig → ℕ → Value → Value → Bool

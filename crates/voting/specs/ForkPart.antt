@@ -1,16 +1,17 @@
 -- The fork part of a boundary: what entries 121, 122 and 123 become, and what happens to a round. docs/RULES.md, "Boundary".
 -- Assumes nothing.
-use Rattle.std.specs.Prelude.{ℕ, ◌+◌, ◌%◌, Bool, false, cond, not, ◌&&◌, ◌||◌, ℤ, pos, ◌+ℤ◌, ◌==◌, int_le, None, Some}
-use Rattle.codec.specs.Refusal.{voting_length_zero, setting_large, votes_collected_absent, block_version_absent}
+use Rattle.std.specs.Prelude.{Result, Ok, Err, ℕ, ◌+◌, ◌%◌, Bool, false, cond, not, ◌&&◌, ◌||◌, ℤ, pos, ◌+ℤ◌, ◌==◌, int_le, None, Some}
+use Rattle.codec.specs.declared.refusal.Refusal.TheVariants.{VotingLengthZero, SettingLarge, VotesCollectedAbsent, BlockVersionAbsent}
 use Rattle.codec.specs.Signed.{wrapped}
 use Rattle.voting.specs.declared.settings.VotingConfig.{VotingConfig}
 use Rattle.voting.specs.Value.{Value}
 use Rattle.voting.specs.declared.table.Fork.{Fork}
 use Rattle.voting.specs.declared.fork.Phase.{Phase}
 use Rattle.voting.specs.declared.fork.Round.{Round}
-use Rattle.voting.specs.declared.fork.Forked.{Forked}
+use Rattle.codec.specs.declared.refusal.Refusal.{Refusal}
+use Rattle.codec.specs.Check.{and_then}
 use Rattle.voting.specs.declared.fork.ForkPart.{ForkPart}
-use Rattle.voting.specs.Common.{eq_z, gate}
+use Rattle.voting.specs.Common.{eq_z}
 use Rattle.voting.specs.Settings.{voting_length, vote_epochs, activation_epochs, version2_height, soft_fork_approved, settings_large}
 use Rattle.voting.specs.Table.{fork_entries}
 use Rattle.voting.specs.ForkCheck.{epochs_after}
@@ -18,10 +19,6 @@ use Rattle.voting.specs.ForkCheck.{epochs_after}
 -- nothing happens to a round
 abbrev pub no_round : Round
 no_round = record { opened = false; closed = false; rose = false; total = None }
-
--- refused: the old entries, and nothing happens
-abbrev pub fork_refused : Fork → ℕ → ForkPart
-fork_refused old n = record { refusal = n; fork = old; round = no_round }
 
 -- ---- a round open, 122 = S
 
@@ -71,18 +68,18 @@ unfoldable pub rises : Phase → Bool → Bool
 rises p approved = p.rising && approved
 
 -- 123 changed where it has to be: 20 if it is absent there
-unfoldable pub version_by : Bool → (ℤ → ℤ) → Fork → Value → Forked
-version_by changes next f None = cond changes (record { refusal = block_version_absent; fork = f }) (record { refusal = 0; fork = f })
-version_by changes next f (Some z) = record { refusal = 0; fork = fork_entries f.votes f.start (Some (cond changes (next z) z)) }
+unfoldable pub version_by : Bool → (ℤ → ℤ) → Fork → Value → Result Fork Refusal
+version_by changes next f None = cond changes (Err BlockVersionAbsent) (Ok f)
+version_by changes next f (Some z) = Ok (fork_entries f.votes f.start (Some (cond changes (next z) z)))
 
 unfoldable pub one_more : ℤ → ℤ
 one_more z = wrapped 32 (z +ℤ pos 1)
 
-unfoldable pub risen : Bool → Fork → Forked
+unfoldable pub risen : Bool → Fork → Result Fork Refusal
 risen rise f = version_by rise one_more f f.version
 
 -- the five in order, each on the entries that the one before leaves; their conditions are on the old ones
-unfoldable pub five_steps : Phase → (vote approved : Bool) → ℤ → ℕ → Fork → Forked
+unfoldable pub five_steps : Phase → (vote approved : Bool) → ℤ → ℕ → Fork → Result Fork Refusal
 five_steps p vote approved total height old =
     risen (rises p approved)
     (collected p.voting total
@@ -107,38 +104,33 @@ round_steps p vote approved total =
 unfoldable pub two_for_one : ℤ → ℤ
 two_for_one z = cond (eq_z z (pos 1)) (pos 2) z
 
-unfoldable pub forced : Bool → Fork → Forked
+unfoldable pub forced : Bool → Fork → Result Fork Refusal
 forced at f = version_by at two_for_one f f.version
 
 -- the entries after the steps, which may be refused, and then after the forced version
-unfoldable pub finished : VotingConfig → ℕ → Fork → Round → Forked → ForkPart
-finished g height old round f =
-    gate (fork_refused old) f.refusal
-    (gate (fork_refused old) (forced (height == version2_height g) f.fork).refusal
-    (record { refusal = 0; fork = (forced (height == version2_height g) f.fork).fork; round = round }))
+unfoldable pub finished : VotingConfig → ℕ → Round → Result Fork Refusal → Result ForkPart Refusal
+finished g height round f =
+    and_then f (λ stepped. and_then (forced (height == version2_height g) stepped) (λ last. Ok (record { fork = last; round = round })))
 
 -- a round open: 19 if 121 is absent where a step reads the total, and nowhere else
-unfoldable pub running : VotingConfig → ℕ → Bool → ℕ → Fork → Phase → Value → ForkPart
-running g height vote votes old p None =
-    cond (reads_total p) (fork_refused old votes_collected_absent) (finished g height old no_round (record { refusal = 0; fork = old }))
+unfoldable pub running : VotingConfig → ℕ → Bool → ℕ → Fork → Phase → Value → Result ForkPart Refusal
+running g height vote votes old p None = cond (reads_total p) (Err VotesCollectedAbsent) (finished g height no_round (Ok old))
 running g height vote votes old p (Some n) =
-    finished g height old (round_steps p vote (soft_fork_approved g (fork_total votes n)) (fork_total votes n))
+    finished g height (round_steps p vote (soft_fork_approved g (fork_total votes n)) (fork_total votes n))
     (five_steps p vote (soft_fork_approved g (fork_total votes n)) (fork_total votes n) height old)
 
 -- no 122: if the boundary votes 120 and its height is a multiple of L, 122 becomes the height and 121 becomes 0
-unfoldable pub opening : VotingConfig → ℕ → Bool → Fork → ForkPart
+unfoldable pub opening : VotingConfig → ℕ → Bool → Fork → Result ForkPart Refusal
 opening g height vote old =
-    finished g height old (record { opened = vote && (height % voting_length g == 0); closed = false; rose = false; total = None })
-    (record { refusal = 0; fork = begun (vote && height % voting_length g == 0) height old })
+    finished g height (record { opened = vote && (height % voting_length g == 0); closed = false; rose = false; total = None })
+    (Ok (begun (vote && height % voting_length g == 0) height old))
 
-unfoldable pub by_start : VotingConfig → ℕ → Bool → ℕ → Fork → Value → ForkPart
+unfoldable pub by_start : VotingConfig → ℕ → Bool → ℕ → Fork → Value → Result ForkPart Refusal
 by_start g height vote votes old None = opening g height vote old
 by_start g height vote votes old (Some start) = running g height vote votes old (phase_at g height start) old.votes
 
 -- The fork part, by the settings, the height, whether the boundary header votes 120, the first 120 entry's count, and the old entries: 17 if L
 -- is 0, 18 if a setting is large, then 19 and 20 as they are met.
-unfoldable pub fork_part : VotingConfig → ℕ → Bool → ℕ → Fork → ForkPart
+unfoldable pub fork_part : VotingConfig → ℕ → Bool → ℕ → Fork → Result ForkPart Refusal
 fork_part g height vote votes old =
-    cond (voting_length g == 0) (fork_refused old voting_length_zero)
-    (cond (settings_large g) (fork_refused old setting_large)
-    (by_start g height vote votes old old.start))
+    cond (voting_length g == 0) (Err VotingLengthZero) (cond (settings_large g) (Err SettingLarge) (by_start g height vote votes old old.start))

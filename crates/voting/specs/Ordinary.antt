@@ -1,12 +1,13 @@
 -- The ordinary votes at a boundary: which are approved, and the step of each parameter. docs/RULES.md, "Boundary".
 -- Assumes nothing.
-use Rattle.std.specs.Prelude.{ℕ, ◌-◌, Bool, cond, ◌&&◌, List, [], ◌∷◌, ℤ, pos, ◌+ℤ◌, ◌-ℤ◌, ◌==◌, int_div, int_lt, nat_le, slice_index_or, unsigned_abs, None, Some}
-use Rattle.codec.specs.Refusal.{unknown_parameter, absent_parameter}
+use Rattle.std.specs.Prelude.{Result, Ok, Err, ℕ, ◌-◌, Bool, cond, ◌&&◌, List, [], ◌∷◌, ℤ, pos, ◌+ℤ◌, ◌-ℤ◌, int_div, int_lt, nat_le, slice_index_or, unsigned_abs, None, Some}
+use Rattle.codec.specs.declared.refusal.Refusal.TheVariants.{UnknownParameter, AbsentParameter}
 use Rattle.voting.specs.declared.settings.VotingConfig.{VotingConfig}
 use Rattle.voting.specs.Value.{Value}
 use Rattle.voting.specs.declared.table.Table.{Table}
 use Rattle.voting.specs.declared.tally.Entry.{Entry}
-use Rattle.voting.specs.declared.ordinary.Voted.{Voted}
+use Rattle.codec.specs.declared.refusal.Refusal.{Refusal}
+use Rattle.codec.specs.Check.{and_then}
 use Rattle.voting.specs.Settings.{change_approved}
 use Rattle.voting.specs.Table.{lookup, update}
 use Rattle.voting.specs.Header.{soft_fork_vote}
@@ -57,36 +58,26 @@ moved id z = cond (int_lt (pos 0) id) (raised (parameter id) z) (lowered (parame
 unfoldable pub known : ℕ → Bool
 known m = nat_le 1 m && nat_le m 9
 
--- the table so far, or a refusal
-abbrev pub passes : Table → Voted
-passes t = record { refusal = 0; table = t }
-
-abbrev pub stops : Table → ℕ → Voted
-stops t n = record { refusal = n; table = t }
-
-unfoldable pub onward : Voted → (Table → Voted) → Voted
-onward v k = cond (v.refusal == 0) (k v.table) v
-
 -- an entry that counts here: its id is below 120 and its count is approved
 unfoldable pub counts : VotingConfig → Entry → Bool
 counts g e = int_lt e.id (pos soft_fork_vote) && change_approved g e.count
 
 -- the parameter's old value, moved; 14 where it is absent
-unfoldable pub writes : ℤ → Table → Value → Voted
-writes id new None = stops new absent_parameter
-writes id new (Some z) = passes (update new (parameter id) (Some (moved id z)))
+unfoldable pub writes : ℤ → Table → Value → Result Table Refusal
+writes id new None = Err AbsentParameter
+writes id new (Some z) = Ok (update new (parameter id) (Some (moved id z)))
 
 -- an approved vote: 13 where the parameter is unknown; its value is read in the table after the fork part
-unfoldable pub approved_vote : Table → ℤ → Table → Voted
-approved_vote from id new = cond (known (parameter id)) (writes id new (lookup from (parameter id))) (stops new unknown_parameter)
+unfoldable pub approved_vote : Table → ℤ → Table → Result Table Refusal
+approved_vote from id new = cond (known (parameter id)) (writes id new (lookup from (parameter id))) (Err UnknownParameter)
 
-unfoldable pub voted : VotingConfig → Table → Entry → Table → Voted
-voted g from e new = cond (counts g e) (approved_vote from e.id new) (passes new)
+unfoldable pub voted : VotingConfig → Table → Entry → Table → Result Table Refusal
+voted g from e new = cond (counts g e) (approved_vote from e.id new) (Ok new)
 
 -- the entries in order; all read the same table, and the last write wins
-unfoldable pub ordinary_votes : VotingConfig → Table → List Entry → Table → Voted
-ordinary_votes g from [] new = passes new
-ordinary_votes g from (e ∷ es) new = onward (voted g from e new) (ordinary_votes g from es)
+unfoldable pub ordinary_votes : VotingConfig → Table → List Entry → Table → Result Table Refusal
+ordinary_votes g from [] new = Ok new
+ordinary_votes g from (e ∷ es) new = and_then (voted g from e new) (ordinary_votes g from es)
 
 -- The three lists as the Rust reads them: nothing for an id that is no parameter, and for a computed step.
 unfoldable pub parameter_min : ℤ → Value

@@ -1,13 +1,14 @@
 -- The table of twelve entries, the first tables of the networks, and the check of a block's version.
 -- docs/RULES.md, "Table and settings" and "Writers and rest".
 -- Assumes nothing.
-use Rattle.std.specs.Prelude.{ℕ, ◌-◌, cond, [], ◌∷◌, ℤ, pos, ◌==◌, nat_lt, slice_index_or, slice_set, None, Some}
-use Rattle.codec.specs.Refusal.{block_version_absent, block_version_differs}
+use Rattle.std.specs.Prelude.{Err, ℕ, ◌-◌, cond, [], ◌∷◌, ℤ, pos, ◌==◌, nat_lt, slice_index_or, slice_set, None, Some}
+use Rattle.codec.specs.declared.refusal.Refusal.TheVariants.{BlockVersionAbsent, BlockVersionDiffers}
 use Rattle.voting.specs.declared.settings.Network.{Network}
 use Rattle.voting.specs.declared.settings.Network.TheVariants.{Mainnet, Testnet}
 use Rattle.voting.specs.Value.{Value}
 use Rattle.voting.specs.declared.table.Fork.{Fork}
 use Rattle.voting.specs.declared.table.Table.{Table}
+use Rattle.codec.specs.Check.{Check, passed}
 use Rattle.voting.specs.Common.{eq_z}
 
 -- the ids of the entries beside the parameters 1 to 8
@@ -60,9 +61,9 @@ default_parameters Mainnet = beginning None (pos 1)
 default_parameters Testnet = beginning (Some (pos 30)) (pos 4)
 
 -- 20 where there is no version, 16 where it is another one
-unfoldable pub version_refusal : Value → ℕ → ℕ
-version_refusal None v = block_version_absent
-version_refusal (Some z) v = cond (eq_z z (pos v)) 0 block_version_differs
+unfoldable pub has_version : Value → ℕ → Check
+has_version None v = Err BlockVersionAbsent
+has_version (Some z) v = cond (eq_z z (pos v)) passed (Err BlockVersionDiffers)
 
-unfoldable pub check_block_version : Table → ℕ → ℕ
-check_block_version t v = version_refusal (lookup t id_block_version) v
+unfoldable pub check_block_version : Table → ℕ → Check
+check_block_version t v = has_version (lookup t id_block_version) v

@@ -1,11 +1,11 @@
 -- The tally of the votes of an epoch. docs/RULES.md, "Tally".
 -- Assumes nothing.
-use Rattle.std.specs.Prelude.{ℕ, suc, ◌+◌, ◌*◌, ◌/◌, Bool, false, cond, List, [], ◌∷◌, length, take, ℤ, pos, ◌==◌, nat_eq, nat_lt}
-use Rattle.codec.specs.Refusal.{input_long}
+use Rattle.std.specs.Prelude.{Result, Ok, Err, ℕ, suc, ◌+◌, ◌*◌, ◌/◌, Bool, false, cond, List, [], ◌∷◌, length, take, ℤ, pos, ◌==◌, nat_eq, nat_lt}
+use Rattle.codec.specs.declared.refusal.Refusal.TheVariants.{InputLong}
 use Rattle.codec.specs.Signed.{signed_of}
 use Rattle.voting.specs.declared.tally.Entry.{Entry}
 use Rattle.voting.specs.declared.tally.Tally.{Tally}
-use Rattle.voting.specs.declared.tally.Tallied.{Tallied}
+use Rattle.codec.specs.declared.refusal.Refusal.{Refusal}
 use Rattle.counting.specs.Count.{count}
 use Rattle.voting.specs.Common.{eq_z}
 use Rattle.voting.specs.Header.{votes_for}
@@ -42,10 +42,9 @@ seeded (a ∷ b ∷ []) = no_tally
 unfoldable pub seeds : (first_height boundary_height length : ℕ) → Bool
 seeds first_height boundary_height length = first_height + length == boundary_height
 
-unfoldable pub tally_votes_seeded : (first_height : ℕ) → List ℕ → (boundary_height length : ℕ) → Tallied
+unfoldable pub tally_votes_seeded : (first_height : ℕ) → List ℕ → (boundary_height length : ℕ) → Result Tally Refusal
 tally_votes_seeded first_height votes boundary_height length' =
-    cond (nat_lt 65536 (length votes / 3)) (record { refusal = input_long; tally = no_tally })
-    (record { refusal = 0; tally = cond (seeds first_height boundary_height length') (seeded (whole votes)) no_tally })
+    cond (nat_lt 65536 (length votes / 3)) (Err InputLong) (Ok (cond (seeds first_height boundary_height length') (seeded (whole votes)) no_tally))
 
 -- the entries of a tally in order: a place with id 0 holds none
 unfoldable pub entry : Entry → List Entry → List Entry

@@ -1,21 +1,14 @@
 // Soft-fork rounds: the fork check of a header, and the fork part of a boundary. docs/RULES.md, "Fork check" and "Boundary".
 ghost use Rattle.std.specs.Prelude.{◌≡◌, ◌*◌, ◌<◌, false, pos, ◌+ℤ◌, if◌then◌else◌};
 ghost use Rattle.voting.specs.Settings.{voting_length, settings_large};
-ghost use Rattle.voting.specs.ForkCheck.{barred, check_round, check_fork_vote, fork_refusal, round_open, votes_open};
-ghost use Rattle.voting.specs.ForkPart.{no_round, fork_refused, phase_at, fork_total, reads_total, closes_late, closes_early, restarts, rises, without, begun, collected, one_more, risen, five_steps, round_steps, two_for_one, forced, finished, running, opening, fork_part};
+ghost use Rattle.voting.specs.ForkCheck.{barred, check_round, check_fork_vote, round_open, votes_open};
+ghost use Rattle.voting.specs.ForkPart.{no_round, phase_at, fork_total, reads_total, closes_late, closes_early, restarts, rises, without, begun, collected, one_more, risen, five_steps, round_steps, two_for_one, forced, finished, running, opening, fork_part};
 
 use crate::header;
 use crate::settings::VotingConfig;
 use crate::table::{Fork, Table, Value};
-use codec::{refusal, signed};
-
-// Whether a header may vote for the fork, or a refusal.
-#[derive(Clone, Copy)]
-pub enum ForkVote {
-    Allowed,
-    Barred,
-    Refused(u8),
-}
+use codec::refusal::Refusal;
+use codec::signed;
 
 // Where a height stands in an open round: at its late or its early closing height, where its votes are collected, where the version rises.
 #[derive(Clone, Copy)]
@@ -36,17 +29,9 @@ pub struct Round {
     pub total: Value,
 }
 
-// The fork entries, or a refusal's number.
-#[derive(Clone, Copy)]
-pub struct Forked {
-    pub refusal: u8,
-    pub fork: Fork,
-}
-
-// A refusal's number or 0; the fork entries that go on, which are the old ones where it is refused; and what happens to a round.
+// The fork entries that go on, and what happens to a round.
 #[derive(Clone, Copy)]
 pub struct ForkPart {
-    pub refusal: u8,
     pub fork: Fork,
     pub round: Round,
 }
@@ -74,38 +59,36 @@ fn is_barred(config: VotingConfig, height: u32, start: i32, votes: i32) -> bool
     ((from <= h) & (h < early) & !approved) | ((from <= h) & (h < late) & approved)
 }
 
-fn check_round(config: VotingConfig, height: u32, start: Value, votes: Value) -> ForkVote
+fn check_round(config: VotingConfig, height: u32, start: Value, votes: Value) -> Result<(), Refusal>
     requires { settings_large config ≡ false }
     ensures { result ≡ check_round config height start votes }
 {
-    match start {
-        None => ForkVote::Allowed,
-        Some(s) => match votes {
-            None => ForkVote::Refused(refusal::VOTES_COLLECTED_ABSENT),
-            Some(n) => {
-                if is_barred(config, height, s, n) {
-                    return ForkVote::Barred;
-                }
-                ForkVote::Allowed
-            }
-        },
+    let Some(s) = start else {
+        return Ok(());
+    };
+    let n = votes.ok_or(Refusal::VotesCollectedAbsent)?;
+    if is_barred(config, height, s, n) {
+        return Err(Refusal::ForkVoteBarred);
     }
+    Ok(())
 }
 
-// Whether a header at a height may vote as it does: allowed, barred, or refused by 18 or 19.
-pub fn check_fork_vote(config: VotingConfig, height: u32, votes: [u8; 3], table: Table) -> ForkVote
+// Whether a header at a height may vote as it does; or 12, 18, 19.
+pub fn check_fork_vote(
+    config: VotingConfig,
+    height: u32,
+    votes: [u8; 3],
+    table: Table,
+) -> Result<(), Refusal>
     ensures { result ≡ check_fork_vote config height votes table }
 {
     if config.settings_large() {
-        return ForkVote::Refused(refusal::SETTING_LARGE);
+        return Err(Refusal::SettingLarge);
     }
     if header::votes_for(header::SOFT_FORK_VOTE, votes) {
-        let f = table.fork;
-        let s = f.start;
-        let n = f.votes;
-        return check_round(config, height, s, n);
+        return check_round(config, height, table.fork.start, table.fork.votes);
     }
-    ForkVote::Allowed
+    Ok(())
 }
 
 fn round_open(config: VotingConfig, end: u32, start: Value, votes: Value) -> bool
@@ -127,23 +110,7 @@ fn round_open(config: VotingConfig, end: u32, start: Value, votes: Value) -> boo
 pub fn votes_open(config: VotingConfig, end: u32, table: Table) -> bool
     ensures { result ≡ votes_open config end table }
 {
-    let f = table.fork;
-    let s = f.start;
-    let n = f.votes;
-    !config.settings_large() & round_open(config, end, s, n)
-}
-
-impl ForkVote {
-    // The number that turns the header down, or 0.
-    pub fn number(self) -> u8
-        ensures { result ≡ fork_refusal self }
-    {
-        match self {
-            ForkVote::Allowed => 0,
-            ForkVote::Barred => refusal::FORK_VOTE_BARRED,
-            ForkVote::Refused(n) => n,
-        }
-    }
+    !config.settings_large() & round_open(config, end, table.fork.start, table.fork.votes)
 }
 
 // Nothing happens to a round.
@@ -155,17 +122,6 @@ pub(crate) fn no_round() -> Round
         closed: false,
         rose: false,
         total: None,
-    }
-}
-
-fn fork_refused(old: Fork, refusal: u8) -> ForkPart
-    ensures { result ≡ fork_refused old refusal }
-{
-    let round = no_round();
-    ForkPart {
-        refusal,
-        fork: old,
-        round,
     }
 }
 
@@ -226,11 +182,10 @@ fn without(closes: bool, f: Fork) -> Fork
     ensures { result ≡ without closes f }
 {
     if closes {
-        let version = f.version;
         return Fork {
             votes: None,
             start: None,
-            version,
+            version: f.version,
         };
     }
     f
@@ -241,12 +196,10 @@ fn begun(opens: bool, height: u32, f: Fork) -> Fork
     ensures { result ≡ begun opens height f }
 {
     if opens {
-        let h = signed::i32_of(height);
-        let version = f.version;
         return Fork {
             votes: Some(0),
-            start: Some(h),
-            version,
+            start: Some(signed::i32_of(height)),
+            version: f.version,
         };
     }
     f
@@ -257,29 +210,22 @@ fn collected(voting: bool, total: i32, f: Fork) -> Fork
     ensures { result ≡ collected voting total f }
 {
     if voting {
-        let start = f.start;
-        let version = f.version;
         return Fork {
             votes: Some(total),
-            start,
-            version,
+            start: f.start,
+            version: f.version,
         };
     }
     f
 }
 
-fn with_version(f: Fork, z: i32) -> Forked
-    ensures { result ≡ record { refusal = 0; fork = record { votes = f.votes; start = f.start; version = Some z } } }
+fn with_version(f: Fork, z: i32) -> Fork
+    ensures { result ≡ record { votes = f.votes; start = f.start; version = Some z } }
 {
-    let votes = f.votes;
-    let start = f.start;
-    Forked {
-        refusal: 0,
-        fork: Fork {
-            votes,
-            start,
-            version: Some(z),
-        },
+    Fork {
+        votes: f.votes,
+        start: f.start,
+        version: Some(z),
     }
 }
 
@@ -290,27 +236,25 @@ fn one_more(z: i32) -> i32
 }
 
 // Step 5: entry 123 rises.
-fn risen(rise: bool, f: Fork) -> Forked
+fn risen(rise: bool, f: Fork) -> Result<Fork, Refusal>
     ensures { result ≡ risen rise f }
 {
     if !rise {
-        return Forked {
-            refusal: 0,
-            fork: f,
-        };
+        return Ok(f);
     }
-    let version = f.version;
-    match version {
-        None => Forked {
-            refusal: refusal::BLOCK_VERSION_ABSENT,
-            fork: f,
-        },
-        Some(z) => with_version(f, one_more(z)),
-    }
+    let z = f.version.ok_or(Refusal::BlockVersionAbsent)?;
+    Ok(with_version(f, one_more(z)))
 }
 
 // The five steps in order.
-fn five_steps(p: Phase, vote: bool, approved: bool, total: i32, height: u32, old: Fork) -> Forked
+fn five_steps(
+    p: Phase,
+    vote: bool,
+    approved: bool,
+    total: i32,
+    height: u32,
+    old: Fork,
+) -> Result<Fork, Refusal>
     ensures { result ≡ five_steps p vote approved total height old }
 {
     let first = without(closes_late(p, approved), old);
@@ -333,13 +277,12 @@ fn stored(voting: bool, total: i32) -> Value
 fn round_steps(p: Phase, vote: bool, approved: bool, total: i32) -> Round
     ensures { result ≡ round_steps p vote approved total }
 {
-    let t = stored(p.voting, total);
     let opened = restarts(p, vote, approved);
     Round {
         opened,
         closed: closes_late(p, approved) | closes_early(p, approved) | opened,
         rose: rises(p, approved),
-        total: t,
+        total: stored(p.voting, total),
     }
 }
 
@@ -353,43 +296,27 @@ fn two_for_one(z: i32) -> i32
 }
 
 // The forced version.
-fn forced(at: bool, f: Fork) -> Forked
+fn forced(at: bool, f: Fork) -> Result<Fork, Refusal>
     ensures { result ≡ forced at f }
 {
     if !at {
-        return Forked {
-            refusal: 0,
-            fork: f,
-        };
+        return Ok(f);
     }
-    let version = f.version;
-    match version {
-        None => Forked {
-            refusal: refusal::BLOCK_VERSION_ABSENT,
-            fork: f,
-        },
-        Some(z) => with_version(f, two_for_one(z)),
-    }
+    let z = f.version.ok_or(Refusal::BlockVersionAbsent)?;
+    Ok(with_version(f, two_for_one(z)))
 }
 
-// The steps' entries, and then the forced version; or the old ones.
-fn finished(config: VotingConfig, height: u32, old: Fork, round: Round, f: Forked) -> ForkPart
-    ensures { result ≡ finished config height old round f }
+// The steps' entries, and then the forced version.
+fn finished(
+    config: VotingConfig,
+    height: u32,
+    round: Round,
+    f: Result<Fork, Refusal>,
+) -> Result<ForkPart, Refusal>
+    ensures { result ≡ finished config height round f }
 {
-    if f.refusal != 0 {
-        return fork_refused(old, f.refusal);
-    }
-    let after = f.fork;
-    let last = forced(height == config.version2_activation_height, after);
-    if last.refusal != 0 {
-        return fork_refused(old, last.refusal);
-    }
-    let fork = last.fork;
-    ForkPart {
-        refusal: 0,
-        fork,
-        round,
-    }
+    let fork = forced(height == config.version2_activation_height, f?)?;
+    Ok(ForkPart { fork, round })
 }
 
 // A round that is open, with its entry 121.
@@ -401,32 +328,28 @@ fn running(
     old: Fork,
     p: Phase,
     collected: Value,
-) -> ForkPart
+) -> Result<ForkPart, Refusal>
     ensures { result ≡ running config height vote votes old p collected }
 {
     match collected {
         None => {
             if reads_total(p) {
-                return fork_refused(old, refusal::VOTES_COLLECTED_ABSENT);
+                return Err(Refusal::VotesCollectedAbsent);
             }
-            let f = Forked {
-                refusal: 0,
-                fork: old,
-            };
-            finished(config, height, old, no_round(), f)
+            finished(config, height, no_round(), Ok(old))
         }
         Some(n) => {
             let total = fork_total(votes, n);
             let approved = config.soft_fork_approved(total);
             let round = round_steps(p, vote, approved, total);
             let f = five_steps(p, vote, approved, total, height, old);
-            finished(config, height, old, round, f)
+            finished(config, height, round, f)
         }
     }
 }
 
 // Without one: a vote at a multiple of the length opens it.
-fn opening(config: VotingConfig, height: u32, vote: bool, old: Fork) -> ForkPart
+fn opening(config: VotingConfig, height: u32, vote: bool, old: Fork) -> Result<ForkPart, Refusal>
     requires { 0 < voting_length config }
     ensures { result ≡ opening config height vote old }
 {
@@ -437,11 +360,7 @@ fn opening(config: VotingConfig, height: u32, vote: bool, old: Fork) -> ForkPart
         rose: false,
         total: None,
     };
-    let f = Forked {
-        refusal: 0,
-        fork: begun(opened, height, old),
-    };
-    finished(config, height, old, round, f)
+    finished(config, height, round, Ok(begun(opened, height, old)))
 }
 
 // The fork part of a boundary, from the fork entries of the old table, whether the boundary header votes 120, and the votes that the epoch
@@ -452,18 +371,16 @@ pub(crate) fn fork_part(
     vote: bool,
     votes: u32,
     old: Fork,
-) -> ForkPart
+) -> Result<ForkPart, Refusal>
     ensures { result ≡ fork_part config height vote votes old }
 {
     if config.voting_length == 0 {
-        return fork_refused(old, refusal::VOTING_LENGTH_ZERO);
+        return Err(Refusal::VotingLengthZero);
     }
     if config.settings_large() {
-        return fork_refused(old, refusal::SETTING_LARGE);
+        return Err(Refusal::SettingLarge);
     }
-    let start = old.start;
-    let collected = old.votes;
-    match start {
+    match old.start {
         None => opening(config, height, vote, old),
         Some(s) => running(
             config,
@@ -472,7 +389,7 @@ pub(crate) fn fork_part(
             votes,
             old,
             phase_at(config, height, s),
-            collected,
+            old.votes,
         ),
     }
 }

@@ -1,11 +1,12 @@
 // Header votes: three bytes, each a signed id, 0 for no vote. docs/RULES.md, "Header bytes".
-ghost use Rattle.std.specs.Prelude.{◌≡◌, ◌+◌, ◌%◌, ◌≤◌, not, ◌&&◌, ◌||◌, [], ◌∷◌, if◌then◌else◌, ◌==◌, nat_eq};
+ghost use Rattle.std.specs.Prelude.{◌≡◌, is_err, ◌+◌, ◌%◌, not, ◌&&◌, ◌||◌, [], ◌∷◌, if◌then◌else◌, ◌==◌, nat_eq};
 ghost use Rattle.counting.specs.Count.{count};
-ghost use Rattle.voting.specs.Common.{first};
+ghost use Rattle.codec.specs.Check.{passed};
 ghost use Rattle.voting.specs.Header.{soft_fork_vote, votes_in, negation, fault, check_header_votes, votes_for};
 ghost use Rattle.codec.specs.Signed.{bits_of, signed_of};
 
-use codec::{refusal, signed};
+use codec::refusal::Refusal;
+use codec::signed;
 
 // The vote for the fork, as a byte and as an id.
 pub const SOFT_FORK_VOTE: u8 = 120;
@@ -18,17 +19,11 @@ const OWN_NEGATION: u8 = 128;
 // How many ordinary votes a header may have.
 pub const PARAM_VOTES_COUNT: u8 = 2;
 
-fn one(b: bool) -> u8
-    ensures { (result ≡ (if b then 1 else 0)) × (result ≤ 1) }
-{
-    if b { 1 } else { 0 }
-}
-
 // How often v stands among three bytes.
 fn times(v: u8, a: u8, b: u8, c: u8) -> u8
     ensures { result ≡ count (nat_eq v) (a ∷ b ∷ c ∷ []) }
 {
-    one(v == a) + one(v == b) + one(v == c)
+    u8::from(v == a) + u8::from(v == b) + u8::from(v == c)
 }
 
 // Whether a byte is an ordinary vote.
@@ -42,7 +37,7 @@ fn is_ordinary(x: u8) -> bool
 fn ordinary(a: u8, b: u8, c: u8) -> u8
     ensures { result ≡ count (λ x. not (x == 0) && not (x == soft_fork_vote)) (a ∷ b ∷ c ∷ []) }
 {
-    one(is_ordinary(a)) + one(is_ordinary(b)) + one(is_ordinary(c))
+    u8::from(is_ordinary(a)) + u8::from(is_ordinary(b)) + u8::from(is_ordinary(c))
 }
 
 // The byte of the negation, which wraps.
@@ -53,19 +48,19 @@ fn negated(v: u8) -> u8
 }
 
 // What is wrong with the vote v among three bytes; nothing where it is none.
-fn vote_fault(v: u8, a: u8, b: u8, c: u8) -> u8
-    ensures { result ≡ (if nat_eq v 0 then 0 else fault (votes_in (a ∷ b ∷ c ∷ [])) (signed_of 8 v)) }
+fn check_vote(v: u8, a: u8, b: u8, c: u8) -> Result<(), Refusal>
+    ensures { result ≡ (if nat_eq v 0 then passed else fault (votes_in (a ∷ b ∷ c ∷ [])) (signed_of 8 v)) }
 {
     if v == 0 {
-        return 0;
+        return Ok(());
     }
     if 1 < times(v, a, b, c) {
-        return refusal::REPEATED_VOTE;
+        return Err(Refusal::RepeatedVote);
     }
     if 0 < times(negated(v), a, b, c) {
-        return refusal::CONTRADICTORY_VOTE;
+        return Err(Refusal::ContradictoryVote);
     }
-    0
+    Ok(())
 }
 
 // Whether two bytes are the same, or one is the negation of the other.
@@ -78,7 +73,7 @@ fn clashes(x: u8, y: u8) -> bool
 // For the layers above: whether a header's votes are turned down, by a test without branches. Two votes clash, or one is its own negation,
 // or all three are ordinary.
 pub fn is_illegal(a: u8, b: u8, c: u8) -> bool
-    ensures { result ≡ not (check_header_votes (a ∷ b ∷ c ∷ []) == 0) }
+    ensures { result ≡ is_err (check_header_votes (a ∷ b ∷ c ∷ [])) }
 {
     ((a != 0) & (clashes(a, b) | clashes(a, c)))
         | ((b != 0) & clashes(b, c))
@@ -88,26 +83,19 @@ pub fn is_illegal(a: u8, b: u8, c: u8) -> bool
         | (is_ordinary(a) & is_ordinary(b) & is_ordinary(c))
 }
 
-fn first_of(x: u8, y: u8) -> u8
-    ensures { result ≡ first x y }
-{
-    if x == 0 { y } else { x }
-}
-
-fn check_votes(a: u8, b: u8, c: u8) -> u8
+fn check_votes(a: u8, b: u8, c: u8) -> Result<(), Refusal>
     ensures { result ≡ check_header_votes (a ∷ b ∷ c ∷ []) }
 {
     if PARAM_VOTES_COUNT < ordinary(a, b, c) {
-        return refusal::TOO_MANY_VOTES;
+        return Err(Refusal::TooManyVotes);
     }
-    first_of(
-        vote_fault(a, a, b, c),
-        first_of(vote_fault(b, a, b, c), vote_fault(c, a, b, c)),
-    )
+    check_vote(a, a, b, c)?;
+    check_vote(b, a, b, c)?;
+    check_vote(c, a, b, c)
 }
 
-// Whether a header's votes are legal: 0, or 9, 10 or 11.
-pub fn check_header_votes(votes: [u8; 3]) -> u8
+// Whether a header's votes are legal: 9, 10 or 11 where they are not.
+pub fn check_header_votes(votes: [u8; 3]) -> Result<(), Refusal>
     ensures { result ≡ check_header_votes votes }
 {
     check_votes(votes[0], votes[1], votes[2])

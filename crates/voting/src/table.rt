@@ -3,7 +3,7 @@ ghost use Rattle.std.specs.Prelude.{◌≡◌};
 ghost use Rattle.voting.specs.Table.{lookup, update, beginning, default_parameters, check_block_version};
 
 use crate::settings::Network;
-use codec::refusal;
+use codec::refusal::Refusal;
 
 // Ids beside the ordinary parameters 1 to 8. Id 124 is no entry of the table: it stands in extensions for the settings update.
 pub const ID_SUBBLOCKS_PER_BLOCK: u8 = 9;
@@ -133,19 +133,13 @@ pub fn default_parameters(network: Network) -> Table
     }
 }
 
-// Whether a block's version is the table's: 0, or 20 or 16.
-pub fn check_block_version(table: Table, version: u8) -> u8
+// Whether a block's version is the table's: 20 or 16 where it is not.
+pub fn check_block_version(table: Table, version: u8) -> Result<(), Refusal>
     ensures { result ≡ check_block_version table version }
 {
-    let f = table.fork;
-    let v = f.version;
-    match v {
-        None => refusal::BLOCK_VERSION_ABSENT,
-        Some(z) => {
-            if z == version as i32 {
-                return 0;
-            }
-            refusal::BLOCK_VERSION_DIFFERS
-        }
+    match table.fork.version {
+        None => Err(Refusal::BlockVersionAbsent),
+        Some(z) if z == version as i32 => Ok(()),
+        Some(_) => Err(Refusal::BlockVersionDiffers),
     }
 }

@@ -2,7 +2,8 @@
 ghost use Rattle.std.specs.Prelude.{◌≡◌, ◌≤◌, length};
 ghost use Rattle.voting.specs.Tally.{no_tally, slot_entry, seeded, tally_votes_seeded};
 
-use codec::{refusal, signed};
+use codec::refusal::Refusal;
+use codec::signed;
 
 #[repr(C)]
 #[derive(Clone, Copy)]
@@ -17,12 +18,6 @@ pub struct Tally {
     pub first: Entry,
     pub second: Entry,
     pub third: Entry,
-}
-
-#[derive(Clone, Copy)]
-pub struct Tallied {
-    pub refusal: u8,
-    pub tally: Tally,
 }
 
 // The tally without entries.
@@ -65,33 +60,21 @@ fn epoch_tally(votes: &[u8]) -> Tally
     }
 }
 
-// The tally of a window of headers, three vote bytes each: 0 and the tally, or 22 and none.
+// The tally of a window of headers, three vote bytes each; or 22.
 pub fn tally_votes_seeded(
     first_height: u32,
     votes: &[u8],
     boundary_height: u32,
     voting_length: u32,
-) -> Tallied
+) -> Result<Tally, Refusal>
     ensures { result ≡ tally_votes_seeded first_height votes.now boundary_height voting_length }
 {
     let n = votes.len() / 3;
     if 65536 < n {
-        let t = no_tally();
-        return Tallied {
-            refusal: refusal::INPUT_LONG,
-            tally: t,
-        };
+        return Err(Refusal::InputLong);
     }
     if (first_height as u64) + (voting_length as u64) != boundary_height as u64 {
-        let t = no_tally();
-        return Tallied {
-            refusal: 0,
-            tally: t,
-        };
+        return Ok(no_tally());
     }
-    let t = epoch_tally(&votes[..3 * n]);
-    Tallied {
-        refusal: 0,
-        tally: t,
-    }
+    Ok(epoch_tally(&votes[..3 * n]))
 }

@@ -5,11 +5,8 @@ use Rattle.voting.specs.Table.{fork_entries}
 use Rattle.voting.specs.Value.{Value}
 use Rattle.voting.specs.declared.table.Fork.{Fork}
 use Rattle.voting.specs.declared.table.Table.{Table}
-use Rattle.extension.specs.Section.{refused_section}
 use Rattle.extension.specs.Body.{Field}
-use Rattle.extension.specs.Parameters.{no_parameters, number_in, agrees}
-use Rattle.walk.specs.declared.Walked.{Walked}
-use Rattle.walk.specs.Walk.{table_in}
+use Rattle.extension.specs.Parameters.{number_in, agrees}
 
 -- the place of an id among the twelve, 12 for any other; and of a field
 unfoldable pub slot_of : ℕ → ℕ
@@ -39,9 +36,6 @@ table_from s =
       ordinary = slot_at s 0 ∷ slot_at s 1 ∷ slot_at s 2 ∷ slot_at s 3 ∷ slot_at s 4 ∷ slot_at s 5 ∷ slot_at s 6 ∷ slot_at s 7 ∷ slot_at s 8 ∷ [];
       fork = fork_entries (slot_at s 9) (slot_at s 10) (slot_at s 11);
     }
-
-unfoldable pub refused_walk : ℕ → Walked
-refused_walk n = record { parsed = refused_section n; start = 0; end = 0; found = table_in no_parameters }
 
 -- the first of the fork's ids whose entries are unlike
 unfoldable pub fork_unlike : Fork → Fork → ℕ

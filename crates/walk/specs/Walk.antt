@@ -1,10 +1,11 @@
 -- What a replay asks of a body, and the match of a computed table with what was found. docs/RULES.md, "Extension body and match".
 -- Assumes nothing.
-use Rattle.std.specs.Prelude.{ℕ, ◌≡◌, cond, List, [], ◌∷◌}
+use Rattle.std.specs.Prelude.{Result, Ok, Err, ⊤, MatchResult, ℕ, ◌≡◌, cond, List, [], ◌∷◌}
 use Rattle.voting.specs.Table.{lookup, fork_entries}
 use Rattle.voting.specs.declared.table.Table.{Table}
 use Rattle.extension.specs.declared.parameters.ParameterMap.{ParameterMap}
-use Rattle.extension.specs.declared.parameters.Matched.{Matched}
+use Rattle.codec.specs.declared.refusal.Refusal.{Refusal}
+use Rattle.extension.specs.declared.parameters.Mismatch.{Mismatch}
 use Rattle.extension.specs.Section.{PartIs}
 use Rattle.extension.specs.Body.{proposed_update, check_body}
 use Rattle.extension.specs.Parameters.{entry_of, parameters_of, agrees, table_ids, matched}
@@ -18,16 +19,20 @@ table_in m =
       fork = fork_entries (entry_of m 121) (entry_of m 122) (entry_of m 123);
     }
 
--- the check of a body, its proposed update, and its parameters, on every body
-pub record WalkedIs (body : List ℕ) (r : Walked) : Type 0 where
-  pub parsed : r.parsed ≡ check_body body
-  pub update : PartIs body r.start r.end (proposed_update body)
-  pub found : r.found ≡ table_in (parameters_of body).map
+-- the fields of a body that is checked, its proposed update, and its parameters
+pub record WalkedIs (body : List ℕ) (w : Walked) : Type 0 where
+  pub fields : check_body body ≡ Ok w.fields
+  pub update : PartIs body w.start w.end (proposed_update body)
+  pub found : (m : ParameterMap) → parameters_of body ≡ Ok m → w.found ≡ table_in m
+
+-- so on every body; or the body's refusal
+abbrev pub Walks : List ℕ → Result Walked Refusal → Type 0
+Walks body r = MatchResult r (WalkedIs body) (λ e. check_body body ≡ Err e)
 
 -- the first id, in rising order, whose entry in the computed table is missing or different in the other; 0 where there is none
 unfoldable pub first_unlike : Table → Table → List ℕ → ℕ
 first_unlike expected found [] = 0
 first_unlike expected found (id ∷ ids) = cond (agrees (lookup expected id) (lookup found id)) (first_unlike expected found ids) id
 
-unfoldable pub match_found : Table → Table → Matched
+unfoldable pub match_found : Table → Table → Result ⊤ Mismatch
 match_found expected found = matched (first_unlike expected found table_ids)

@@ -5,62 +5,46 @@
 ghost use Rattle.std.specs.Prelude.{◌≡◌, ◌≤◌, length};
 ghost use Rattle.extension.specs.Section.{listing, closed};
 ghost use Rattle.extension.specs.Body.{read_field, extension_of};
-ghost use Rattle.extension.specs.Parameters.{no_parameters, table_ids};
-ghost use Rattle.walk.specs.Walk.{table_in, WalkedIs, first_unlike, match_found};
-ghost use Rattle.walk.specs.Fields.{place_of, slot_in, table_from, refused_walk, fork_unlike};
+ghost use Rattle.extension.specs.Parameters.{matched};
+ghost use Rattle.walk.specs.Walk.{Walks, match_found};
+ghost use Rattle.walk.specs.Fields.{place_of, slot_in, table_from, fork_unlike};
 
-use codec::{refusal, vlq};
-use extension::body::FieldAt;
-use extension::parameters::Matched;
-use extension::section::Parsed;
-use extension::{body, parameters, section};
+use codec::refusal::Refusal;
+use codec::vlq;
+use extension::parameters::Mismatch;
+use extension::section::Section;
+use extension::{body, parameters};
 use voting::table::{Fork, Table, Value};
 
-// The refusal's number and the section of the fields; where the bytes of the proposed update begin and end; and what the body's parameters
-// have of a table's twelve entries. A refused body has no parameters; where only a size is wrong, the update is the one of the fields.
+// The section of the fields; where the bytes of the proposed update begin and end; and what the body's parameters have of a table's twelve
+// entries.
 #[derive(Clone, Copy)]
 pub struct Walked {
-    pub parsed: Parsed,
+    pub fields: Section,
     pub start: usize,
     pub end: usize,
     pub found: Table,
 }
 
-// One pass over the fields of a body.
-pub fn walk_body(body: &[u8]) -> Walked
-    ensures { WalkedIs body.now result }
+// One pass over the fields of a body; or 22, 1 to 6.
+pub fn walk_body(body: &[u8]) -> Result<Walked, Refusal>
+    ensures { Walks body.now result }
 {
     if body::INPUT_MOST < body.len() {
-        return refused(refusal::INPUT_LONG);
+        return Err(Refusal::InputLong);
     }
     if body.len() < body::HEADER_ID_SIZE {
-        return refused(refusal::BODY_SHORT);
+        return Err(Refusal::BodyShort);
     }
-    match vlq::read_u32(body, body::HEADER_ID_SIZE) {
-        Some(m) => walk_fields(body, m.value as u32, m.next),
-        None => refused(refusal::COUNT_UNREADABLE),
-    }
-}
-
-// 15 where a computed entry is missing or different among those found, with the least such id.
-pub fn match_found(expected: Table, found: Table) -> Matched
-    ensures { result ≡ match_found expected found }
-{
-    let id = first_unlike(expected, found);
-    if id == 0 {
-        return Matched { refusal: 0, id: 0 };
-    }
-    Matched {
-        refusal: refusal::ENTRY_DIFFERS,
-        id,
-    }
+    let m = vlq::read_u32(body, body::HEADER_ID_SIZE).ok_or(Refusal::CountUnreadable)?;
+    walk_fields(body, m.value as u32, m.next)
 }
 
 // The fields of a body, that is so many from a position on. A slot for each of the twelve entries, and one for every other field, so that
 // each field is stored without a test; the first update field is kept; a wrong size is told after all fields are read.
-fn walk_fields(body: &[u8], count: u32, begin: usize) -> Walked
+fn walk_fields(body: &[u8], count: u32, begin: usize) -> Result<Walked, Refusal>
     requires { (length body.now ≤ 65536) × (closed count begin (listing (read_field body.now) count begin) ≡ extension_of body.now) }
-    ensures { WalkedIs body.now result }
+    ensures { Walks body.now result }
 {
     let mut found = [None; 13];
     let mut wrong = false;
@@ -68,68 +52,30 @@ fn walk_fields(body: &[u8], count: u32, begin: usize) -> Walked
     let mut start: usize = 0;
     let mut end: usize = 0;
     let mut at = begin;
-    let mut left = count;
-    while 0 < left {
-        left -= 1;
-        match body::field_at(body, at) {
-            FieldAt::HasField(f) => {
-                let from = f.start;
-                let to = f.end;
-                wrong = wrong | body::wrong_size(f.key0, f.key1, to - from);
-                let k = place_of(f.key0, f.key1);
-                let v = &body[from..to];
-                found[k] = slot_in(v);
-                at = to;
-                if !seen & body::update_key(f.key0, f.key1) {
-                    seen = true;
-                    start = from;
-                    end = to;
-                }
-            }
-            FieldAt::NoField(e) => {
-                return refused(e);
-            }
+    for _ in 0..count {
+        let f = body::field_at(body, at)?;
+        at = f.end;
+        wrong = wrong | body::wrong_size(f.key0, f.key1, f.end - f.start);
+        found[place_of(f.key0, f.key1)] = slot_in(&body[f.start..f.end]);
+        if !seen & body::update_key(f.key0, f.key1) {
+            seen = true;
+            start = f.start;
+            end = f.end;
         }
     }
     if wrong {
-        return Walked {
-            parsed: section::refused(refusal::PARAMETER_SIZE),
-            start,
-            end,
-            found: no_entries(),
-        };
+        return Err(Refusal::ParameterSize);
     }
-    Walked {
-        parsed: section::read(count, begin, at),
+    Ok(Walked {
+        fields: Section {
+            count,
+            begin,
+            end: at,
+        },
         start,
         end,
         found: table_of(found),
-    }
-}
-
-// A refused body: no fields.
-fn refused(n: u8) -> Walked
-    ensures { result ≡ refused_walk n }
-{
-    Walked {
-        parsed: section::refused(n),
-        start: 0,
-        end: 0,
-        found: no_entries(),
-    }
-}
-
-fn no_entries() -> Table
-    ensures { result ≡ table_in no_parameters }
-{
-    Table {
-        ordinary: [None; 9],
-        fork: Fork {
-            votes: None,
-            start: None,
-            version: None,
-        },
-    }
+    })
 }
 
 // The place of a field's entry among the twelve; 12 for any other field.
@@ -177,39 +123,29 @@ fn table_of(s: [Value; 13]) -> Table
     }
 }
 
-// The least id whose computed entry is missing or different, 0 where there is none.
-fn first_unlike(expected: Table, found: Table) -> u8
-    ensures { result ≡ first_unlike expected found table_ids }
+// 15 where a computed entry is missing or different among those found, with the least such id.
+pub fn match_found(expected: Table, found: Table) -> Result<(), Mismatch>
+    ensures { result ≡ match_found expected found }
 {
-    let mut k: usize = 0;
-    while k < 9 {
-        if parameters::differs(expected.ordinary[k], found.ordinary[k]) {
-            return (k + 1) as u8;
+    for k in 0..9u8 {
+        if parameters::differs(expected.ordinary[k as usize], found.ordinary[k as usize]) {
+            return Err(Mismatch { id: k + 1 });
         }
-        k += 1;
     }
-    let e = expected.fork;
-    let f = found.fork;
-    fork_unlike(e, f)
+    match_forks(expected.fork, found.fork)
 }
 
-fn fork_unlike(expected: Fork, found: Fork) -> u8
-    ensures { result ≡ fork_unlike expected found }
+fn match_forks(expected: Fork, found: Fork) -> Result<(), Mismatch>
+    ensures { result ≡ matched (fork_unlike expected found) }
 {
-    let votes = expected.votes;
-    let found_votes = found.votes;
-    if parameters::differs(votes, found_votes) {
-        return 121;
+    if parameters::differs(expected.votes, found.votes) {
+        return Err(Mismatch { id: 121 });
     }
-    let start = expected.start;
-    let found_start = found.start;
-    if parameters::differs(start, found_start) {
-        return 122;
+    if parameters::differs(expected.start, found.start) {
+        return Err(Mismatch { id: 122 });
     }
-    let version = expected.version;
-    let found_version = found.version;
-    if parameters::differs(version, found_version) {
-        return 123;
+    if parameters::differs(expected.version, found.version) {
+        return Err(Mismatch { id: 123 });
     }
-    0
+    Ok(())
 }

@@ -3,10 +3,9 @@ use mathlib.Core.Path.{◌≡◌, refl, sym, ap, subst, ◌∙◌}
 use mathlib.Core.List.{List, [], ◌∷◌, ◌++◌}
 use mathlib.Core.Bool.{Bool, true, false, cond}
 use lib.Dec.{leb}
-use Rattle.codec.specs.Refusal.{output_short}
+use Rattle.codec.specs.declared.refusal.Refusal.TheVariants.{OutputShort}
 use Rattle.codec.specs.Output.{Outcome, wrote, refused, outcome, writes}
-use Rattle.codec.specs.declared.output.Wrote.{Wrote}
-use Rattle.codec.specs.declared.output.Wrote.TheVariants.{Bytes, Refused}
+use Rattle.codec.specs.declared.refusal.Refusal.{Refusal}
 use Prim.Native.Nat.{ℕ, zero, suc, ◌+◌, ◌/◌, ◌%◌, ◌^◌, ◌<◌}
 use native.Mathlib.Nat.{add_assoc, add-zero, zero-add, mod-eq_of_lt}
 use native.Mathlib.Omega.{arith}
@@ -21,7 +20,7 @@ use Rattle.codec.proofs.Laws.BigEndian.{number-of-bytes, bytes-length}
 use Rattle.codec.proofs.Laws.Signed.{bits_back, bits_fit}
 use Rattle.voting.specs.declared.settings.VotingConfig.{VotingConfig}
 use Rattle.voting.specs.Value.{Value}
-use Rattle.std.specs.Prelude.{None, Some}
+use Rattle.std.specs.Prelude.{None, Some, Result, Ok, Err}
 use Rattle.voting.specs.declared.table.Fork.{Fork}
 use Rattle.voting.specs.declared.table.Table.{Table}
 use Rattle.voting.specs.declared.tally.Entry.{Entry}
@@ -160,14 +159,14 @@ abbrev pub IsWrote : Outcome → Type 0
 IsWrote (wrote n cells) = Unit {0}
 IsWrote (refused e cells) = ⊥
 
-at-start : (b : Bool) (n m e : ℕ) (after piece rest cells : List ℕ) → wrote n after ≡ cond b (wrote m (piece ++ rest)) (refused e cells) → Stands after 0 piece
+at-start : (b : Bool) (n m : ℕ) (e : Refusal) (after piece rest cells : List ℕ) → wrote n after ≡ cond b (wrote m (piece ++ rest)) (refused e cells) → Stands after 0 piece
 at-start true n m e after piece rest cells q =
     let a : after ≡ piece ++ rest = ap cells_of q in
     record { here = λ k f. ap (λ (l : List ℕ). get_or l (0 + k) 0) a ∙ ap (λ (j : ℕ). get_or (piece ++ rest) j 0) (zero-add k) ∙ get_or-append piece rest 0 k f }
 at-start false n m e after piece rest cells q = absurd (subst IsWrote q tt)
 
-pub reads-back : {X : Type 0} {read_at : List ℕ → ℕ → X} {piece : List ℕ} {x : X} → Back read_at piece x → (w : Wrote) (after cells : List ℕ) → outcome w after ≡ writes piece cells → Written w → read_at after 0 ≡ x
+pub reads-back : {X : Type 0} {read_at : List ℕ → ℕ → X} {piece : List ℕ} {x : X} → Back read_at piece x → (w : Result ℕ Refusal) (after cells : List ℕ) → outcome w after ≡ writes piece cells → Written w → read_at after 0 ≡ x
 unfolding writes
-reads-back {piece = piece} b (Bytes n) after cells e t =
-    b after 0 (at-start (leb (length piece) (length cells)) n (length piece) output_short after piece (drop (length piece) cells) cells e)
-reads-back b (Refused e) after cells q t = absurd t
+reads-back {piece = piece} b (Ok n) after cells e t =
+    b after 0 (at-start (leb (length piece) (length cells)) n (length piece) OutputShort after piece (drop (length piece) cells) cells e)
+reads-back b (Err e) after cells q t = cc

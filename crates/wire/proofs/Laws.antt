@@ -1,12 +1,19 @@
--- Pieces one after another: how stores join, and the steps of the loops over slots. Assumes nothing.
-use mathlib.Core.Path.{◌≡◌, refl, sym, ap, ◌∙◌}
+-- Pieces one after another: how stores join, how slots are put, and how slots and the bytes of an id are read. Assumes nothing.
+use mathlib.Core.Path.{◌≡◌, refl, sym, ap, subst, ◌∙◌}
 use mathlib.Core.List.{List, [], ◌∷◌, ◌++◌, map, append-nil}
-use Prim.Native.Nat.{ℕ, zero, suc, ◌+◌, ◌*◌, ◌-◌, ◌/◌, ◌%◌, ◌≤◌, ◌<◌}
+use Prim.Native.Nat.{ℕ, zero, suc, ◌+◌, ◌*◌, ◌/◌, ◌%◌, ◌≤◌, ◌<◌}
 use native.Mathlib.Numerals.{add-one}
 use native.Mathlib.Omega.{arith}
+use lib.Dec.{eqb}
 use lib.IntN.{ℤ}
 use lib.ListN.{length, get_or, drop, set, length-append, drop_of_length-le}
 use lib.Seq.{sets, sets-eq, drop-cons}
+use borrow.Author.Tests.{eqb-true, eqb-false}
+use denote.Param.Members.{Mut, Called}
+use Rattle.std.specs.Array.{IsFromFnResult, IsFromFnResultFrom}
+use Rattle.std.specs.List.{range_with_len}
+use Rattle.std.proofs.lemmas.List.FromFn.{fill_by_all}
+use Rattle.voting.proofs.Laws.Tests.{by-test}
 use Rattle.codec.specs.Output.{Outcome, writes}
 use Rattle.codec.specs.Signed.{bits_of, signed_of}
 use Rattle.codec.proofs.Laws.BigEndian.{bytes-length, four_bytes_lem}
@@ -68,9 +75,9 @@ value-long None = ap suc (bytes-length 4 0)
 value-long (Some z) = ap suc (bytes-length 4 (bits_of 32 z))
 
 -- slots put: one, and then the others; all of them
-pub slots-put : (slots : List Value) (i : ℕ) → i < length slots → {out out' : List ℕ} {k : ℕ} → Put 5 k (value_bytes (get_or slots i None)) out out' → sets out' (k + 5) (slots_bytes (drop (i + 1) slots)) ≡ sets out k (slots_bytes (drop i slots))
+pub slots-put : (slots : List Value) (i : ℕ) → i < length slots → {out out' : List ℕ} {k : ℕ} (next : ℕ) → next ≡ k + 5 → Put 5 k (value_bytes (get_or slots i None)) out out' → sets out' next (slots_bytes (drop (i + 1) slots)) ≡ sets out k (slots_bytes (drop i slots))
 unfolding slots_bytes
-slots-put slots i h p = rw (drop-cons slots i None h, add-one i) (behind p (slots_bytes (drop (suc i) slots)))
+slots-put slots i h next e p = rw (e, drop-cons slots i None h, add-one i) (behind p (slots_bytes (drop (suc i) slots)))
 
 pub slots-long : (slots : List Value) → length (slots_bytes slots) ≡ 5 * length slots
 unfolding slots_bytes
@@ -86,28 +93,31 @@ all-put slots {out} {out'} {at} k i l h e =
     none : (left : List Value) → left ≡ [] → sets out' k (slots_bytes left) ≡ out'
     none left q = rw q
 
--- slots read: one, and then the others
-pub slots-more : (slots : List Value) (i k : ℕ) (bytes : List ℕ) (v : Value) → i < 9 → v ≡ value_at bytes k → sets (set slots i v) (i + 1) (slots_at (9 - (i + 1)) bytes (k + 5)) ≡ sets slots i (slots_at (9 - i) bytes k)
-unfolding slots_at
-slots-more slots i k bytes v h q =
-    let e : 9 - i ≡ suc (9 - (i + 1)) = omega arith in
-    rw (e, q, add-one i)
+-- an array that `array::from_fn` made: what the closure, which stays as it is, gives for each index
+module _ {F B : Type 0} (g : Mut F (ℕ × Unit {0}) B) (f : F) (n : ℕ) (h : ℕ → B) (d : B) (gives : (i : ℕ) (y : B) (q : F) → i < n → Called g f (i, tt) y q → (q ≡ f) × (y ≡ h i)) where
+  made-from : (m i : ℕ) (ys : List B) → i + m ≡ n → IsFromFnResultFrom g f ys i m → (k : ℕ) → i ≤ k → k < n → get_or ys k d ≡ h k
+  made-from zero i ys e r k a b = absurd (omega arith)
+  made-from (suc m) i ys e (q, y, is, called, rest) k a b =
+      let t = gives i y q (omega arith) called in
+      by-test (eqb k i)
+      (λ s. let p : k ≡ i = eqb-true k i s in rw p (is.1 d ∙ t.1))
+      (λ s. let p = eqb-false k i s in made-from m (i + 1) ys (omega arith) (subst (λ (x : F). IsFromFnResultFrom g x ys (i + 1) m) t.0 rest) k (omega arith) b)
 
-pub slots_read : (slots : List Value) (i k : ℕ) (bytes : List ℕ) → 9 ≤ i → sets slots i (slots_at (9 - i) bytes k) ≡ slots
-unfolding slots_at
-slots_read slots i k bytes h = let e : 9 - i ≡ 0 = omega arith in rw e
+  pub made : (ys : List B) → IsFromFnResult g f ys n → ys ≡ map h (range_with_len 0 n)
+  made ys r = fill_by_all h ys n d r.long (λ k l. made-from n 0 ys (omega arith) r.each k (omega arith) l)
 
--- a header's id, read: one byte, and then the others; all of them
-pub id-more : (cells bytes : List ℕ) (i b : ℕ) → i < 32 → b ≡ get_or bytes i 0
-    → sets (set cells i b) (i + 1) (bytes_at (32 - (i + 1)) bytes (i + 1)) ≡ sets cells i (bytes_at (32 - i) bytes i)
+-- bytes read one after another
+pub bytes_read : (n at : ℕ) (bytes : List ℕ) → map (λ (k : ℕ). get_or bytes k 0) (range_with_len at n) ≡ bytes_at n bytes at
 unfolding bytes_at
-id-more cells bytes i b h q =
-    let e : 32 - i ≡ suc (32 - (i + 1)) = omega arith in
-    rw (e, q, add-one i)
+bytes_read zero at bytes = refl
+bytes_read (suc n) at bytes = ap (λ (bs : List ℕ). get_or bytes at 0 ∷ bs) (bytes_read n (at + 1) bytes)
 
-pub id-read : (cells bytes : List ℕ) (i : ℕ) → 32 ≤ i → sets cells i (bytes_at (32 - i) bytes i) ≡ cells
-unfolding bytes_at
-id-read cells bytes i h = let e : 32 - i ≡ 0 = omega arith in rw e
+-- slots read one after another
+pub slots_read : (n i at from : ℕ) (bytes : List ℕ) → from ≡ at + 5 * i → map (λ (k : ℕ). (value_at bytes (at + 5 * k))) (range_with_len i n) ≡ slots_at n bytes from
+unfolding slots_at
+slots_read zero i at from bytes e = refl
+slots_read (suc n) i at from bytes e =
+    rw e (ap (λ (ss : List Value). (value_at bytes (at + 5 * i)) ∷ ss) (slots_read n (i + 1) at (at + 5 * i + 5) bytes (omega arith)))
 
 -- an entry's bytes
 pub entry-bytes : (e : Entry) (b : ℕ) → b ≡ bits_of 8 e.id → marked b e.count ≡ entry_bytes e

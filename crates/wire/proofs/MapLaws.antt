@@ -1,10 +1,9 @@
 -- The parameters of a body in bytes: the bytes of each id, one after another; entries read, one after another; and what was written, read back.
--- First, the steps of the loop over the bytes of a header's id. Assumes nothing.
+-- Assumes nothing.
 use mathlib.Core.Path.{◌≡◌, refl, ap, ◌∙◌, subst}
 use mathlib.Core.List.{List, [], ◌∷◌, ◌++◌}
 use Prim.Native.Nat.{ℕ, zero, suc, ◌+◌, ◌-◌, ◌≤◌, ◌<◌}
 use native.Mathlib.Nat.{add-zero}
-use native.Mathlib.Numerals.{add-one, add-two, add-three, add-four, add_five}
 use native.Mathlib.Omega.{arith}
 use mir.Syntax.{w32}
 use mir.Val.{SFits, of_z, to_z}
@@ -12,8 +11,8 @@ use mir.ValLaws.{to_z-of_z}
 use borrow.Author.Tests.{eqb-true, eqb-false}
 use lib.Dec.{eqb}
 use lib.IntN.{ℤ}
-use lib.ListN.{length, get_or, drop, length-drop, length-append, length-set, length-replicate, get_or-replicate}
-use lib.Seq.{sets, drop-cons, get_or-set_same, get_or-set_other}
+use lib.ListN.{length, get_or, length-append, length-set}
+use lib.Seq.{sets}
 use Rattle.codec.specs.BigEndian.{big_endian_bytes}
 use Rattle.codec.specs.Signed.{bits_of}
 use Rattle.codec.proofs.Laws.BigEndian.{number-back}
@@ -23,6 +22,7 @@ use Rattle.std.specs.Prelude.{None, Some}
 use Rattle.voting.proofs.Laws.Tests.{by-test}
 use Rattle.extension.specs.declared.parameters.ParameterMap.{ParameterMap}
 use Rattle.extension.specs.Parameters.{no_parameters, entry_of, store, number_in}
+use Rattle.extension.proofs.Laws.Parameters.{store_same, store_other, no-entry, no_length}
 use Rattle.extension.proofs.Laws.PackTrip.{Held, Sound}
 use Rattle.wire.specs.Numbers.{number_bytes}
 use Rattle.wire.specs.Values.{marked}
@@ -78,45 +78,26 @@ module _ (m : ParameterMap) (id : ℕ) where
       put_one cells at q =
           rw (from_one, output.sets-append (present_bytes id (entry_of m id)) (present_from (256 - (id + 1)) (id + 1) m) cells at, ← is-v, ← is-r, ← q)
 
--- the entries read from a position on: none, or one and then the others
-module _ (bytes : List ℕ) (m : ParameterMap) (at : ℕ) where
-  pub in-none : length bytes - at < 5 → map_in (drop at bytes) m ≡ m
-  unfolding map_in
-  in-none h = go (drop at bytes) (omega (arith, length-drop at bytes))
-    where
-      go : (s : List ℕ) → length s < 5 → map_in s m ≡ m
-      go [] h = refl
-      go (a ∷ []) h = refl
-      go (a ∷ b ∷ []) h = refl
-      go (a ∷ b ∷ c ∷ []) h = refl
-      go (a ∷ b ∷ c ∷ d ∷ []) h = refl
-      go (a ∷ b ∷ c ∷ d ∷ e ∷ s) h = absurd (omega arith)
+-- the entries read: none of less than five bytes; one and then the others
+pub in-none : (m : ParameterMap) (bytes : List ℕ) → length bytes < 5 → map_in bytes m ≡ m
+unfolding map_in
+in-none m [] h = refl
+in-none m (a ∷ []) h = refl
+in-none m (a ∷ b ∷ []) h = refl
+in-none m (a ∷ b ∷ c ∷ []) h = refl
+in-none m (a ∷ b ∷ c ∷ d ∷ []) h = refl
+in-none m (a ∷ b ∷ c ∷ d ∷ e ∷ s) h = absurd (omega arith)
 
-  in-five : at + 4 < length bytes
-      → drop at bytes ≡ get_or bytes at 0 ∷ get_or bytes (at + 1) 0 ∷ get_or bytes (at + 2) 0 ∷ get_or bytes (at + 3) 0 ∷ get_or bytes (at + 4) 0 ∷ drop (at + 5) bytes
-  in-five h =
-      let h₀ : at < length bytes = omega arith in
-      let h₁ : suc at < length bytes = omega arith in
-      let h₂ : suc (suc at) < length bytes = omega arith in
-      let h₃ : suc (suc (suc at)) < length bytes = omega arith in
-      let h₄ : suc (suc (suc (suc at))) < length bytes = omega arith in
-      rw (
-        add-one,
-        add-two,
-        add-three,
-        add-four,
-        add_five,
-        drop-cons bytes at 0 h₀,
-        drop-cons bytes (suc at) 0 h₁,
-        drop-cons bytes (suc (suc at)) 0 h₂,
-        drop-cons bytes (suc (suc (suc at))) 0 h₃,
-        drop-cons bytes (suc (suc (suc (suc at)))) 0 h₄,
-      )
-
-  pub in_one : 5 ≤ length bytes - at → {next : ParameterMap} {v : Value} → next ≡ store m (get_or bytes at 0) v
-      → v ≡ number_in (get_or bytes (at + 1) 0 ∷ get_or bytes (at + 2) 0 ∷ get_or bytes (at + 3) 0 ∷ get_or bytes (at + 4) 0 ∷ []) → map_in (drop (at + 5) bytes) next ≡ map_in (drop at bytes) m
-  unfolding map_in
-  in_one h q e = rw (q, e, in-five (omega arith))
+pub in_one : (m : ParameterMap) (entry bytes : List ℕ) → length entry ≡ 5 → {all : List ℕ} → all ≡ entry ++ bytes → {next : ParameterMap} {v : Value} → next ≡ store m (get_or entry 0 0) v
+    → v ≡ number_in (get_or entry 1 0 ∷ get_or entry 2 0 ∷ get_or entry 3 0 ∷ get_or entry 4 0 ∷ []) → map_in bytes next ≡ map_in all m
+unfolding map_in
+in_one m [] bytes l p q e = absurd (omega arith)
+in_one m (a ∷ []) bytes l p q e = absurd (omega arith)
+in_one m (a ∷ b ∷ []) bytes l p q e = absurd (omega arith)
+in_one m (a ∷ b ∷ c ∷ []) bytes l p q e = absurd (omega arith)
+in_one m (a ∷ b ∷ c ∷ d ∷ []) bytes l p q e = absurd (omega arith)
+in_one m (id ∷ a ∷ b ∷ c ∷ d ∷ []) bytes l p q e = rw (p, q, e)
+in_one m (a ∷ b ∷ c ∷ d ∷ e ∷ x ∷ s) bytes l p q f = absurd (omega arith)
 
 -- the entries after the bytes of one id were read
 abbrev stored : ℕ → Value → ParameterMap → ParameterMap
@@ -141,14 +122,12 @@ stored-length id None m = refl
 stored-length id (Some z) m = length-set m.entries id (Some z)
 
 stored_other : (id at : ℕ) (v : Value) (m : ParameterMap) → (at ≡ id → ⊥) → entry_of (stored id v m) at ≡ entry_of m at
-unfolding entry_of
 stored_other id at None m n = refl
-stored_other id at (Some z) m n = (get_or-set_other m.entries id at (Some z) None n)
+stored_other id at (Some z) m n = store_other m id at (Some z) n
 
 stored_same : (id : ℕ) (v : Value) (m : ParameterMap) → id < length m.entries → entry_of m id ≡ None → entry_of (stored id v m) id ≡ v
-unfolding entry_of
 stored_same id None m h e = e
-stored_same id (Some z) m h e = (get_or-set_same m.entries id (Some z) None h)
+stored_same id (Some z) m h e = store_same m id (Some z) h
 
 -- an id below the n ids from one on keeps its entry; one among them gets the entry that was written
 module _ (m : ParameterMap) (held : Sound m) (id : ℕ) where
@@ -173,14 +152,6 @@ module _ (m : ParameterMap) (held : Sound m) (id : ℕ) where
       subst (λ (k : ℕ). entry_of (stored k (entry_of m k) a) id ≡ entry_of m id) q (stored_same id (entry_of m id) a l e))
       (λ t. let q = eqb-false id from t in
       reached n (from + 1) next (omega arith) (omega arith) (omega (arith, stored-length from (entry_of m from) a)) (stored_other from id (entry_of m from) a q ∙ e))
-
-no-entry : (id : ℕ) → id < 256 → entry_of no_parameters id ≡ None
-unfolding entry_of no_parameters
-no-entry id h = rw (get_or-replicate {A = Value} 256 id None None h)
-
-no_length : length no_parameters.entries ≡ 256
-unfolding no_parameters
-no_length = length-replicate {A = Value} 256 None
 
 pub map_back : (m : ParameterMap) → Sound m → MapBack m
 unfolding map_of map_bytes

@@ -1,8 +1,7 @@
 -- What the private writers and readers at a position say, and when a writer wrote. Assumes nothing.
-use Rattle.std.specs.Prelude.{ℕ, ◌+◌, ◌<◌, ◌≡◌, List, length, get_or}
+use Rattle.std.specs.Prelude.{Result, IsOk, ℕ, ◌+◌, ◌<◌, ◌≡◌, List, length, get_or}
 use Rattle.std.proofs.lemmas.List.Edits.{sets}
-use Rattle.codec.specs.declared.output.Wrote.{Wrote}
-use Rattle.codec.specs.declared.output.Wrote.TheVariants.{Bytes, Refused}
+use Rattle.codec.specs.declared.refusal.Refusal.{Refusal}
 
 -- a piece of so many bytes was stored from a position on, and no other cell changed; what reaches past the end is dropped
 pub record Put (size at : ℕ) (piece before after : List ℕ) : Type 0 where
@@ -18,6 +17,5 @@ abbrev pub Back : {X : Type 0} → (List ℕ → ℕ → X) → List ℕ → X �
 Back read_at piece x = (bytes : List ℕ) (at : ℕ) → Stands bytes at piece → read_at bytes at ≡ x
 
 -- a writer was not refused
-abbrev pub Written : Wrote → Type 0
-Written (Bytes n) = Unit {0}
-Written (Refused e) = ⊥
+abbrev pub Written : Result ℕ Refusal → Type 0
+Written = IsOk

@@ -4,7 +4,7 @@ ghost use Rattle.codec.specs.Output.{outcome, writes};
 ghost use Rattle.wire.specs.Boundary.{question_of, computed_bytes};
 
 use crate::{numbers, places, values};
-use codec::output::Wrote;
+use codec::refusal::Refusal;
 use extension::boundary::Computed;
 use lent::boundary::BoundaryAt;
 
@@ -24,7 +24,7 @@ pub fn question_of(bytes: &[u8]) -> BoundaryAt
     }
 }
 
-pub fn write_computed(c: Computed, out: &mut [u8]) -> Wrote
+pub fn write_computed(c: Computed, out: &mut [u8]) -> Result<usize, Refusal>
     ensures out_after { outcome result out.new ≡ writes (computed_bytes c) out.old }
     ensures size { length (computed_bytes c) ≡ 84 }
 {

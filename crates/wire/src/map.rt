@@ -4,8 +4,8 @@ ghost use Rattle.std.proofs.lemmas.List.Edits.{sets};
 ghost use Rattle.codec.specs.Output.{outcome, writes};
 ghost use Rattle.wire.specs.Map.{present_bytes, map_bytes, map_of, MapBack};
 
-use codec::output::Wrote;
-use codec::{big_endian, output, refusal};
+use codec::refusal::Refusal;
+use codec::{big_endian, output};
 use extension::parameters;
 use extension::parameters::ParameterMap;
 use voting::table::Value;
@@ -17,37 +17,33 @@ pub fn map_of(bytes: &[u8]) -> ParameterMap
     ensures { result ≡ map_of bytes.now }
 {
     let mut m = parameters::no_parameters();
-    let mut at: usize = 0;
-    while PRESENT_SIZE <= bytes.len() - at {
-        let number = [bytes[at + 1], bytes[at + 2], bytes[at + 3], bytes[at + 4]];
+    for entry in bytes.chunks_exact(PRESENT_SIZE) {
+        let number = [entry[1], entry[2], entry[3], entry[4]];
         let z = big_endian::i32_from_be_bytes(number);
-        m = m.with(bytes[at], Some(z));
-        at += PRESENT_SIZE;
+        m = m.with(entry[0], Some(z));
     }
     m
 }
 
-pub fn write_map(m: ParameterMap, out: &mut [u8]) -> Wrote
+pub fn write_map(m: ParameterMap, out: &mut [u8]) -> Result<usize, Refusal>
     ensures out_after { outcome result out.new ≡ writes (map_bytes m) out.old }
     ensures reads_back { MapBack m }
 {
     let n = map_size(m);
     if out.len() < n {
-        return Wrote::Refused(refusal::OUTPUT_SHORT);
+        return Err(Refusal::OutputShort);
     }
     put_map(out, m);
-    Wrote::Bytes(n)
+    Ok(n)
 }
 
 fn map_size(m: ParameterMap) -> usize
     ensures { result ≡ length (map_bytes m) }
 {
     let mut n: usize = 0;
-    let mut id: usize = 0;
-    while id < 256 {
-        let v = m.get(id as u8);
-        n += present_size(id as u8, v);
-        id += 1;
+    for id in 0..=u8::MAX {
+        let v = m.get(id);
+        n += present_size(id, v);
     }
     n
 }
@@ -65,12 +61,10 @@ fn put_map(out: &mut [u8], m: ParameterMap)
     ensures { out.new ≡ sets out.old 0 (map_bytes m) }
 {
     let mut at: usize = 0;
-    let mut id: usize = 0;
-    while id < 256 {
-        let v = m.get(id as u8);
-        put_present(out, at, id as u8, v);
-        at += present_size(id as u8, v);
-        id += 1;
+    for id in 0..=u8::MAX {
+        let v = m.get(id);
+        put_present(out, at, id, v);
+        at += present_size(id, v);
     }
 }
 

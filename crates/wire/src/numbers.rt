@@ -4,9 +4,9 @@ ghost use Rattle.codec.specs.Output.{outcome, writes};
 ghost use Rattle.wire.specs.Numbers.{bytes_at, number_at, number_bytes, four_bytes, votes_at};
 ghost use Rattle.wire.specs.Put.{Put, Back};
 
-use codec::output::Wrote;
-use codec::{big_endian, output, refusal};
-use extension::body::HEADER_ID_SIZE;
+use codec::refusal::Refusal;
+use codec::{big_endian, output};
+use std::array;
 
 pub fn byte_at(bytes: &[u8], at: usize) -> u8
     ensures { result ≡ get_or bytes.now at 0 }
@@ -39,14 +39,7 @@ pub fn votes_of(bytes: &[u8]) -> [u8; 3]
 pub fn header_id_of(bytes: &[u8]) -> [u8; 32]
     ensures { result ≡ bytes_at 32 bytes.now 0 }
 {
-    let mut id = [0; 32];
-    let mut i: usize = 0;
-    while i < HEADER_ID_SIZE {
-        let b = byte_at(bytes, i);
-        id[i] = b;
-        i += 1;
-    }
-    id
+    array::from_fn(|i| byte_at(bytes, i))
 }
 
 pub(crate) fn put_u32(out: &mut [u8], at: usize, n: u32)
@@ -79,12 +72,12 @@ pub(crate) fn put_four(out: &mut [u8], at: usize, a: u32, b: u32, c: usize, d: u
 }
 
 // Bytes as they are.
-pub fn write_bytes(bytes: &[u8], out: &mut [u8]) -> Wrote
+pub fn write_bytes(bytes: &[u8], out: &mut [u8]) -> Result<usize, Refusal>
     ensures { outcome result out.new ≡ writes bytes.now out.old }
 {
     if out.len() < bytes.len() {
-        return Wrote::Refused(refusal::OUTPUT_SHORT);
+        return Err(Refusal::OutputShort);
     }
     output::put_bytes(out, 0, bytes);
-    Wrote::Bytes(bytes.len())
+    Ok(bytes.len())
 }

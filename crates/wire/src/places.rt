@@ -6,7 +6,7 @@ ghost use Rattle.wire.specs.Places.{section_at, section_bytes, update_at, update
 
 use crate::numbers;
 use archive::record::RecordPlace;
-use codec::output::Wrote;
+use codec::refusal::Refusal;
 use codec::signed;
 use extension::body::FieldPlace;
 use extension::section::Section;
@@ -40,7 +40,7 @@ fn section_at(bytes: &[u8], at: usize) -> Section
     }
 }
 
-pub fn write_section(s: Section, out: &mut [u8]) -> Wrote
+pub fn write_section(s: Section, out: &mut [u8]) -> Result<usize, Refusal>
     ensures out_after { outcome result out.new ≡ writes (section_bytes s) out.old }
     ensures reads_back { Written result → Narrow s → section_at out.new 0 ≡ s }
     ensures size { length (section_bytes s) ≡ 12 }
@@ -50,7 +50,7 @@ pub fn write_section(s: Section, out: &mut [u8]) -> Wrote
     numbers::write_bytes(&cells, out)
 }
 
-pub fn write_update(u: Update, out: &mut [u8]) -> Wrote
+pub fn write_update(u: Update, out: &mut [u8]) -> Result<usize, Refusal>
     ensures out_after { outcome result out.new ≡ writes (update_bytes u) out.old }
     ensures reads_back { Written result → Narrow u.rules → Narrow u.statuses → update_at out.new 0 ≡ u }
     ensures size { length (update_bytes u) ≡ 24 }
@@ -60,7 +60,7 @@ pub fn write_update(u: Update, out: &mut [u8]) -> Wrote
     numbers::write_bytes(&cells, out)
 }
 
-pub fn write_field(f: FieldPlace, out: &mut [u8]) -> Wrote
+pub fn write_field(f: FieldPlace, out: &mut [u8]) -> Result<usize, Refusal>
     ensures out_after { outcome result out.new ≡ writes (field_bytes f) out.old }
     ensures size { length (field_bytes f) ≡ 16 }
 {
@@ -69,7 +69,7 @@ pub fn write_field(f: FieldPlace, out: &mut [u8]) -> Wrote
     numbers::write_bytes(&cells, out)
 }
 
-pub fn write_rule(x: RulePlace, out: &mut [u8]) -> Wrote
+pub fn write_rule(x: RulePlace, out: &mut [u8]) -> Result<usize, Refusal>
     ensures out_after { outcome result out.new ≡ writes (rule_bytes x) out.old }
     ensures size { length (rule_bytes x) ≡ 8 }
 {
@@ -79,7 +79,7 @@ pub fn write_rule(x: RulePlace, out: &mut [u8]) -> Wrote
     numbers::write_bytes(&cells, out)
 }
 
-pub fn write_status(x: StatusPlace, out: &mut [u8]) -> Wrote
+pub fn write_status(x: StatusPlace, out: &mut [u8]) -> Result<usize, Refusal>
     ensures out_after { outcome result out.new ≡ writes (status_bytes x) out.old }
     ensures size { length (status_bytes x) ≡ 16 }
 {
@@ -90,7 +90,7 @@ pub fn write_status(x: StatusPlace, out: &mut [u8]) -> Wrote
     numbers::write_bytes(&cells, out)
 }
 
-pub fn write_record(p: RecordPlace, out: &mut [u8]) -> Wrote
+pub fn write_record(p: RecordPlace, out: &mut [u8]) -> Result<usize, Refusal>
     ensures out_after { outcome result out.new ≡ writes (record_bytes p) out.old }
     ensures size { length (record_bytes p) ≡ 20 }
 {

@@ -6,7 +6,7 @@ ghost use Rattle.wire.specs.State.{state_at, state_bytes};
 
 use crate::{numbers, values};
 use archive::replay::Replay;
-use codec::output::Wrote;
+use codec::refusal::Refusal;
 
 pub fn state_of(bytes: &[u8]) -> Replay
     ensures { result ≡ state_at bytes.now 0 }
@@ -23,7 +23,7 @@ pub fn state_of(bytes: &[u8]) -> Replay
     }
 }
 
-pub fn write_state(x: Replay, out: &mut [u8]) -> Wrote
+pub fn write_state(x: Replay, out: &mut [u8]) -> Result<usize, Refusal>
     ensures out_after { outcome result out.new ≡ writes (state_bytes x) out.old }
     ensures reads_back { Written result → state_at out.new 0 ≡ x }
     ensures size { length (state_bytes x) ≡ 95 }

@@ -5,8 +5,9 @@ ghost use Rattle.wire.specs.Put.{Put, Back, Written};
 ghost use Rattle.wire.specs.Values.{marked, value_at, value_bytes, slots_at, slots_bytes, fork_at, fork_bytes, table_at, table_bytes, settings_at, settings_bytes, entry_at, entry_bytes, tally_at, tally_bytes};
 
 use crate::numbers;
-use codec::output::Wrote;
+use codec::refusal::Refusal;
 use codec::{output, signed};
+use std::array;
 use voting::settings::VotingConfig;
 use voting::table::{Fork, Table, Value};
 use voting::tally::{Entry, Tally};
@@ -35,7 +36,7 @@ pub fn tally_of(bytes: &[u8]) -> Tally
     tally_at(bytes, 0)
 }
 
-pub fn write_value(v: Value, out: &mut [u8]) -> Wrote
+pub fn write_value(v: Value, out: &mut [u8]) -> Result<usize, Refusal>
     ensures out_after { outcome result out.new ≡ writes (value_bytes v) out.old }
     ensures reads_back { Written result → value_at out.new 0 ≡ v }
     ensures size { length (value_bytes v) ≡ 5 }
@@ -45,7 +46,7 @@ pub fn write_value(v: Value, out: &mut [u8]) -> Wrote
     numbers::write_bytes(&cells, out)
 }
 
-pub fn write_table(t: Table, out: &mut [u8]) -> Wrote
+pub fn write_table(t: Table, out: &mut [u8]) -> Result<usize, Refusal>
     ensures out_after { outcome result out.new ≡ writes (table_bytes t) out.old }
     ensures reads_back { Written result → table_at out.new 0 ≡ t }
     ensures size { length (table_bytes t) ≡ 60 }
@@ -55,7 +56,7 @@ pub fn write_table(t: Table, out: &mut [u8]) -> Wrote
     numbers::write_bytes(&cells, out)
 }
 
-pub fn write_settings(g: VotingConfig, out: &mut [u8]) -> Wrote
+pub fn write_settings(g: VotingConfig, out: &mut [u8]) -> Result<usize, Refusal>
     ensures out_after { outcome result out.new ≡ writes (settings_bytes g) out.old }
     ensures reads_back { Written result → settings_at out.new 0 ≡ g }
     ensures size { length (settings_bytes g) ≡ 16 }
@@ -65,7 +66,7 @@ pub fn write_settings(g: VotingConfig, out: &mut [u8]) -> Wrote
     numbers::write_bytes(&cells, out)
 }
 
-pub fn write_tally(y: Tally, out: &mut [u8]) -> Wrote
+pub fn write_tally(y: Tally, out: &mut [u8]) -> Result<usize, Refusal>
     ensures out_after { outcome result out.new ≡ writes (tally_bytes y) out.old }
     ensures reads_back { Written result → tally_at out.new 0 ≡ y }
     ensures size { length (tally_bytes y) ≡ 15 }
@@ -92,15 +93,7 @@ fn slots_at(bytes: &[u8], at: usize) -> [Value; 9]
     requires { at ≤ 3000 }
     ensures { result ≡ slots_at 9 bytes.now at }
 {
-    let mut slots = [None; 9];
-    let mut k = at;
-    let mut i: usize = 0;
-    while i < 9 {
-        slots[i] = value_at(bytes, k);
-        k += 5;
-        i += 1;
-    }
-    slots
+    array::from_fn(|i| value_at(bytes, at + 5 * i))
 }
 
 fn fork_at(bytes: &[u8], at: usize) -> Fork
@@ -190,12 +183,8 @@ fn put_slots(out: &mut [u8], at: usize, slots: [Value; 9])
     ensures put { Put 45 at (slots_bytes slots) out.old out.new }
     ensures back { Back (slots_at 9) (slots_bytes slots) slots }
 {
-    let mut k = at;
-    let mut i: usize = 0;
-    while i < 9 {
-        put_value(out, k, slots[i]);
-        k += 5;
-        i += 1;
+    for (i, s) in slots.iter().enumerate() {
+        put_value(out, at + 5 * i, *s);
     }
 }
 

@@ -1,23 +1,24 @@
 -- Bodies and parameters written, and read back. docs/RULES.md, "Writers and rest". What a body's bytes are and what is refused stands in
 -- crates/extension/specs/Pack.antt.
 -- Assumes nothing.
-use Rattle.std.specs.Prelude.{◌≡◌, ℕ, zero, suc, ◌+◌, ◌%◌, ◌≤◌, cond, List, [], ◌∷◌, ◌++◌, ℤ, ◌==◌, None, Some}
+use Rattle.std.specs.Prelude.{Ok, IsOk, ◌≡◌, ℕ, zero, suc, ◌+◌, ◌%◌, ◌≤◌, cond, List, [], ◌∷◌, ◌++◌, ℤ, ◌==◌, None, Some}
 use Rattle.codec.specs.Signed.{bits_of}
 use Rattle.codec.specs.BigEndian.{big_endian_bytes}
+use Rattle.codec.specs.Check.{passed}
 use Rattle.codec.specs.Output.{Outcome, writing, writes}
 use Rattle.voting.specs.Value.{Value}
 use Rattle.extension.specs.declared.parameters.ParameterMap.{ParameterMap}
 use Rattle.extension.specs.Section.{items}
 use Rattle.extension.specs.Body.{extension_of, fields_of, header_id, check_body}
 use Rattle.extension.specs.Parameters.{entry_of, parameters_of}
-use Rattle.extension.specs.Pack.{wire_fields, pack_refusal, packed}
+use Rattle.extension.specs.Pack.{wire_fields, check_fields, packed}
 
 unfoldable pub pack_extension : List ℕ → List ℕ → List ℕ → Outcome
-pack_extension id fields cells = writing (pack_refusal (wire_fields fields)) (packed id fields) cells
+pack_extension id fields cells = writing (check_fields (wire_fields fields)) (packed id fields) cells
 
 -- what was packed, if it is not too long to be read, is read back
 pub record PackedBack (id fields : List ℕ) : Type 0 where
-  pub parsed : (extension_of (packed id fields)).refusal ≡ 0
+  pub parsed : IsOk (extension_of (packed id fields))
   pub same_id : header_id (packed id fields) ≡ id
   pub same-fields : fields_of (packed id fields) ≡ items (wire_fields fields)
 
@@ -44,7 +45,8 @@ pack_parameters m cells = writes (parameter_bytes m) cells
 
 -- the body with these fields passes the body check, and has the parameters that were written
 pub record ParametersBack (m : ParameterMap) (header : List ℕ) : Type 0 where
-  pub packs : pack_refusal (wire_fields (parameter_bytes m)) ≡ 0
-  pub checked : (check_body (packed header (parameter_bytes m))).refusal ≡ 0
-  pub read : (parameters_of (packed header (parameter_bytes m))).refusal ≡ 0
-  pub same : (id : ℕ) → id ≤ 255 → entry_of (parameters_of (packed header (parameter_bytes m))).map id ≡ cond (id == 124) None (entry_of m id)
+  pub packs : check_fields (wire_fields (parameter_bytes m)) ≡ passed
+  pub checked : IsOk (check_body (packed header (parameter_bytes m)))
+  pub found : ParameterMap
+  pub read : parameters_of (packed header (parameter_bytes m)) ≡ Ok found
+  pub same : (id : ℕ) → id ≤ 255 → entry_of found id ≡ cond (id == 124) None (entry_of m id)

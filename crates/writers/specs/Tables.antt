@@ -1,6 +1,6 @@
 -- A computed table as parameters, and the match of the two. docs/RULES.md, "Extension body and match".
 -- Assumes nothing.
-use Rattle.std.specs.Prelude.{◌≡◌, ℕ, ◌≤◌, List, [], ◌∷◌}
+use Rattle.std.specs.Prelude.{IsOk, ◌≡◌, ℕ, ◌≤◌, List, [], ◌∷◌}
 use Rattle.voting.specs.Table.{lookup}
 use Rattle.voting.specs.declared.table.Table.{Table}
 use Rattle.extension.specs.declared.parameters.ParameterMap.{ParameterMap}
@@ -17,4 +17,4 @@ table_parameters t = entries_in t table_ids no_parameters
 -- under each id byte stands the table's entry, and the table matches the parameters
 pub record TableCarried (t : Table) (m : ParameterMap) : Type 0 where
   pub same : (id : ℕ) → id ≤ 255 → entry_of m id ≡ lookup t id
-  pub matches : check_parameters t m ≡ record { refusal = 0; id = 0 }
+  pub matches : IsOk (check_parameters t m)

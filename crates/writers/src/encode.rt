@@ -3,15 +3,16 @@ ghost use Rattle.std.specs.Prelude.{◌≡◌, ◌+◌, ◌≤◌, true, false, 
 ghost use Rattle.codec.specs.Rule.{offset_of};
 ghost use Rattle.codec.specs.Vlq.{vlq_bytes};
 ghost use Rattle.std.proofs.lemmas.List.Edits.{sets};
+ghost use Rattle.codec.specs.Check.{passed};
 ghost use Rattle.codec.specs.Output.{outcome};
 ghost use Rattle.extension.specs.Section.{any};
-ghost use Rattle.extension.specs.Encode.{rules_bytes, status_bytes, statuses_bytes, status_list, agree, low_rule, encode_refusal};
+ghost use Rattle.extension.specs.Encode.{rules_bytes, status_bytes, statuses_bytes, status_list, agree, low_rule, check_update};
 ghost use Rattle.writers.specs.Encode.{statuses_size, encode_update, encode_rules, EncodedAgain};
 
 use crate::sizes;
-use codec::output::Wrote;
+use codec::refusal::Refusal;
 use codec::rule::RuleId;
-use codec::{output, refusal, rule, vlq};
+use codec::{output, rule, vlq};
 
 // The most rules and the most statuses that are written, and the most bytes of one status.
 const ITEMS_MOST: usize = 65536;
@@ -27,14 +28,11 @@ pub fn encode_validation_settings_update(
     sizes: &[u32],
     raw: &[u8],
     out: &mut [u8],
-) -> Wrote
+) -> Result<usize, Refusal>
     ensures out_after { outcome result out.new ≡ encode_update rules.now ids.now codes.now sizes.now raw.now out.old }
-    ensures back { encode_refusal rules.now ids.now codes.now sizes.now raw.now ≡ 0 → EncodedAgain rules.now (status_list ids.now codes.now sizes.now raw.now) }
+    ensures back { check_update rules.now ids.now codes.now sizes.now raw.now ≡ passed → EncodedAgain rules.now (status_list ids.now codes.now sizes.now raw.now) }
 {
-    let e = encode_refusal(rules, ids, codes, sizes, raw);
-    if e != 0 {
-        return Wrote::Refused(e);
-    }
+    check_update(rules, ids, codes, sizes, raw)?;
     let n = rules.len() as u64;
     let k = ids.len() as u64;
     let first = vlq::size(n);
@@ -42,69 +40,75 @@ pub fn encode_validation_settings_update(
     let third = second + vlq::size(k);
     let need = third + statuses_size(ids, sizes);
     if out.len() < need {
-        return Wrote::Refused(refusal::OUTPUT_SHORT);
+        return Err(Refusal::OutputShort);
     }
     vlq::put(out, 0, n);
     put_rules(out, first, rules);
     vlq::put(out, second, k);
     put_statuses(out, third, ids, codes, sizes, raw);
-    Wrote::Bytes(need)
+    Ok(need)
 }
 
 // Writes an update that has rules alone.
-pub fn encode_disabled_rules(rules: &[u16], out: &mut [u8]) -> Wrote
+pub fn encode_disabled_rules(rules: &[u16], out: &mut [u8]) -> Result<usize, Refusal>
     ensures out_after { outcome result out.new ≡ encode_rules rules.now out.old }
     ensures back { length rules.now ≤ 65536 → EncodedAgain rules.now [] }
 {
     if ITEMS_MOST < rules.len() {
-        return Wrote::Refused(refusal::INPUT_LONG);
+        return Err(Refusal::InputLong);
     }
     let n = rules.len() as u64;
     let first = vlq::size(n);
     let second = first + rules_size(rules);
     let need = second + 1;
     if out.len() < need {
-        return Wrote::Refused(refusal::OUTPUT_SHORT);
+        return Err(Refusal::OutputShort);
     }
     vlq::put(out, 0, n);
     put_rules(out, first, rules);
     output::put(out, second, 0);
-    Wrote::Bytes(need)
+    Ok(need)
 }
 
 // fit: where nothing is refused every id was looked at, and none is above 32,767.
-fn encode_refusal(rules: &[u16], ids: &[i16], codes: &[u8], sizes: &[u32], raw: &[u8]) -> u8
-    ensures value { result ≡ encode_refusal rules.now ids.now codes.now sizes.now raw.now }
-    ensures fit { result ≡ 0 → any (int_lt (pos 32767)) ids.now ≡ false }
+fn check_update(
+    rules: &[u16],
+    ids: &[i16],
+    codes: &[u8],
+    sizes: &[u32],
+    raw: &[u8],
+) -> Result<(), Refusal>
+    ensures value { result ≡ check_update rules.now ids.now codes.now sizes.now raw.now }
+    ensures fit { result ≡ passed → any (int_lt (pos 32767)) ids.now ≡ false }
 {
     if ITEMS_MOST < rules.len() {
-        return refusal::INPUT_LONG;
+        return Err(Refusal::InputLong);
     }
     if ITEMS_MOST < ids.len() {
-        return refusal::INPUT_LONG;
+        return Err(Refusal::InputLong);
     }
     if ITEMS_MOST < codes.len() {
-        return refusal::INPUT_LONG;
+        return Err(Refusal::InputLong);
     }
     if ITEMS_MOST < sizes.len() {
-        return refusal::INPUT_LONG;
+        return Err(Refusal::InputLong);
     }
     if sizes::any_above(sizes, RAW_MOST) {
-        return refusal::INPUT_LONG;
+        return Err(Refusal::InputLong);
     }
     if any_low(ids) {
-        return refusal::STATUS_RULE_LOW;
+        return Err(Refusal::StatusRuleLow);
     }
     if codes.len() != ids.len() {
-        return refusal::UPDATE_UNREADABLE;
+        return Err(Refusal::UpdateUnreadable);
     }
     if sizes.len() != ids.len() {
-        return refusal::UPDATE_UNREADABLE;
+        return Err(Refusal::UpdateUnreadable);
     }
     if !sizes::sum_is(sizes, raw.len()) {
-        return refusal::UPDATE_UNREADABLE;
+        return Err(Refusal::UpdateUnreadable);
     }
-    0
+    Ok(())
 }
 
 // fit: an id of 16 bits is not above 32,767.
@@ -112,14 +116,7 @@ fn any_low(ids: &[i16]) -> bool
     ensures value { result ≡ any low_rule ids.now }
     ensures fit { result ≡ false → any (int_lt (pos 32767)) ids.now ≡ false }
 {
-    let mut i: usize = 0;
-    while i < ids.len() {
-        if ids[i] < rule::FIRST_RULE_ID {
-            return true;
-        }
-        i += 1;
-    }
-    false
+    ids.iter().any(|id| *id < rule::FIRST_RULE_ID)
 }
 
 fn rules_size(rules: &[u16]) -> usize
@@ -127,10 +124,8 @@ fn rules_size(rules: &[u16]) -> usize
     ensures { (result ≡ length (rules_bytes rules.now)) × (result ≤ 655360) }
 {
     let mut n: usize = 0;
-    let mut i: usize = 0;
-    while i < rules.len() {
-        n += vlq::size(rules[i] as u64);
-        i += 1;
+    for rule in rules {
+        n += vlq::size(*rule as u64);
     }
     n
 }
@@ -139,15 +134,13 @@ fn put_rules(out: &mut [u8], at: usize, rules: &[u16])
     ensures { out.new ≡ sets out.old at (rules_bytes rules.now) }
 {
     let mut k = at;
-    let mut i: usize = 0;
-    while i < rules.len() {
+    for rule in rules {
         if out.len() <= k {
             return;
         }
-        let x = rules[i] as u64;
+        let x = *rule as u64;
         vlq::put(out, k, x);
         k += vlq::size(x);
-        i += 1;
     }
 }
 
@@ -156,13 +149,8 @@ fn statuses_size(ids: &[i16], sizes: &[u32]) -> usize
     ensures { (result ≡ statuses_size ids.now sizes.now) × (result ≤ 281474978086912) }
 {
     let mut n: usize = 0;
-    let mut i: usize = 0;
-    while i < ids.len() {
-        if sizes.len() <= i {
-            return n;
-        }
-        n += status_size(RuleId(ids[i]), sizes[i]);
-        i += 1;
+    for (id, size) in ids.iter().zip(sizes) {
+        n += status_size(RuleId(*id), *size);
     }
     n
 }
@@ -180,18 +168,15 @@ fn put_statuses(out: &mut [u8], at: usize, ids: &[i16], codes: &[u8], sizes: &[u
 {
     let mut k = at;
     let mut p: usize = 0;
-    let mut i: usize = 0;
-    while i < ids.len() {
+    for ((id, code), size) in ids.iter().zip(codes).zip(sizes) {
         if out.len() <= k {
             return;
         }
-        let rule = RuleId(ids[i]);
-        let size = sizes[i];
-        let next = p + size as usize;
-        put_status(out, k, rule, codes[i], &raw[p..next]);
-        k += status_size(rule, size);
+        let rule = RuleId(*id);
+        let next = p + *size as usize;
+        put_status(out, k, rule, *code, &raw[p..next]);
+        k += status_size(rule, *size);
         p = next;
-        i += 1;
     }
 }
 

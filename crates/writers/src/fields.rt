@@ -1,14 +1,15 @@
 // Fields written from lists. docs/RULES.md, "Writers and rest".
 ghost use Rattle.std.specs.Prelude.{◌≡◌, ◌*◌, ◌≤◌, false, length};
 ghost use Rattle.std.proofs.lemmas.List.Edits.{sets};
+ghost use Rattle.codec.specs.Check.{passed};
 ghost use Rattle.codec.specs.Output.{outcome};
 ghost use Rattle.extension.specs.Section.{any};
 ghost use Rattle.extension.specs.Encode.{sum};
-ghost use Rattle.writers.specs.Fields.{field_list, field_bytes, fields_bytes, long_size, fields_refusal, pack_fields, FieldsBack};
+ghost use Rattle.writers.specs.Fields.{field_list, field_bytes, fields_bytes, long_size, check_lists, pack_fields, FieldsBack};
 
 use crate::{pack, sizes};
-use codec::output::Wrote;
-use codec::{output, refusal};
+use codec::output;
+use codec::refusal::Refusal;
 use extension::body;
 
 // The most bytes of a value.
@@ -16,38 +17,40 @@ const SIZE_MOST: u32 = body::VALUE_MOST as u32;
 
 // Writes fields as they stand in a body, one after another. They are handed over as their keys (two bytes each), the sizes of their values,
 // and the bytes of all values one after another.
-pub fn pack_fields(keys: &[u8], sizes: &[u32], values: &[u8], out: &mut [u8]) -> Wrote
+pub fn pack_fields(
+    keys: &[u8],
+    sizes: &[u32],
+    values: &[u8],
+    out: &mut [u8],
+) -> Result<usize, Refusal>
     ensures out_after { outcome result out.new ≡ pack_fields keys.now sizes.now values.now out.old }
-    ensures reads_back { fields_refusal keys.now sizes.now values.now ≡ 0 → FieldsBack (field_list keys.now sizes.now values.now) }
+    ensures reads_back { check_lists keys.now sizes.now values.now ≡ passed → FieldsBack (field_list keys.now sizes.now values.now) }
 {
-    let e = fields_refusal(keys, sizes, values);
-    if e != 0 {
-        return Wrote::Refused(e);
-    }
+    check_lists(keys, sizes, values)?;
     let n = 3 * sizes.len() + values.len();
     if out.len() < n {
-        return Wrote::Refused(refusal::OUTPUT_SHORT);
+        return Err(Refusal::OutputShort);
     }
     put_fields(out, keys, sizes, values);
-    Wrote::Bytes(n)
+    Ok(n)
 }
 
-fn fields_refusal(keys: &[u8], sizes: &[u32], values: &[u8]) -> u8
-    ensures { result ≡ fields_refusal keys.now sizes.now values.now }
+fn check_lists(keys: &[u8], sizes: &[u32], values: &[u8]) -> Result<(), Refusal>
+    ensures { result ≡ check_lists keys.now sizes.now values.now }
 {
     if pack::FIELDS_MOST < sizes.len() {
-        return refusal::INPUT_LONG;
+        return Err(Refusal::InputLong);
     }
     if sizes::any_above(sizes, SIZE_MOST) {
-        return refusal::WRITTEN_VALUE_LONG;
+        return Err(Refusal::WrittenValueLong);
     }
     if keys.len() != 2 * sizes.len() {
-        return refusal::FIELD_HEADER_CUT;
+        return Err(Refusal::FieldHeaderCut);
     }
     if !sizes::sum_is(sizes, values.len()) {
-        return refusal::VALUE_CUT;
+        return Err(Refusal::ValueCut);
     }
-    0
+    Ok(())
 }
 
 fn put_fields(out: &mut [u8], keys: &[u8], sizes: &[u32], values: &[u8])
@@ -55,9 +58,8 @@ fn put_fields(out: &mut [u8], keys: &[u8], sizes: &[u32], values: &[u8])
     ensures { out.new ≡ sets out.old 0 (fields_bytes (field_list keys.now sizes.now values.now)) }
 {
     let mut p: usize = 0;
-    let mut i: usize = 0;
-    while i < sizes.len() {
-        let next = p + sizes[i] as usize;
+    for (i, size) in sizes.iter().enumerate() {
+        let next = p + *size as usize;
         put_field(
             out,
             3 * i + p,
@@ -66,7 +68,6 @@ fn put_fields(out: &mut [u8], keys: &[u8], sizes: &[u32], values: &[u8])
             &values[p..next],
         );
         p = next;
-        i += 1;
     }
 }
 

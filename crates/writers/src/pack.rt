@@ -1,13 +1,14 @@
 // Bodies and parameters written. docs/RULES.md, "Writers and rest".
 ghost use Rattle.std.specs.Prelude.{◌≡◌, ℕ, ◌≤◌, List, length};
 ghost use Rattle.std.proofs.lemmas.List.Edits.{sets};
+ghost use Rattle.codec.specs.Check.{passed};
 ghost use Rattle.codec.specs.Output.{outcome};
-ghost use Rattle.extension.specs.Pack.{wire_fields, pack_refusal, packed};
-ghost use Rattle.writers.specs.Survey.{surveyed, survey_refusal};
+ghost use Rattle.extension.specs.Pack.{wire_fields, check_fields, packed};
+ghost use Rattle.writers.specs.Survey.{surveyed, check_survey};
 ghost use Rattle.writers.specs.Pack.{pack_extension, PackedBack, entry_bytes, parameter_bytes, pack_parameters, ParametersBack};
 
-use codec::output::Wrote;
-use codec::{big_endian, output, refusal, vlq};
+use codec::refusal::Refusal;
+use codec::{big_endian, output, vlq};
 use extension::body;
 use extension::parameters::ParameterMap;
 use voting::table::Value;
@@ -15,36 +16,37 @@ use voting::table::Value;
 // The most fields that are written.
 pub const FIELDS_MOST: usize = 65536;
 
-// A list of fields, walked to its end or to where it is cut: how many fields, whether one has a long value, and 3, 5 or 0.
+// A list of fields, walked to its end or to where it is cut: how many fields, whether one has a long value, and 3 or 5 where it is cut.
 #[derive(Clone, Copy)]
 struct Survey {
     count: usize,
     long: bool,
-    cut: u8,
+    whole: Result<(), Refusal>,
 }
 
 // Writes a body: the id, the number of fields, and the fields, which are handed over as they stand in a body, key, length and value.
-pub fn pack_extension_bytes(header_id: [u8; 32], fields: &[u8], out: &mut [u8]) -> Wrote
+pub fn pack_extension_bytes(
+    header_id: [u8; 32],
+    fields: &[u8],
+    out: &mut [u8],
+) -> Result<usize, Refusal>
     ensures out_after { outcome result out.new ≡ pack_extension header_id fields.now out.old }
-    ensures back { pack_refusal (wire_fields fields.now) ≡ 0 → length (packed header_id fields.now) ≤ 65536 → PackedBack header_id fields.now }
+    ensures back { check_fields (wire_fields fields.now) ≡ passed → length (packed header_id fields.now) ≤ 65536 → PackedBack header_id fields.now }
 {
     let w = survey_fields(fields);
-    let e = pack_refusal(w);
-    if e != 0 {
-        return Wrote::Refused(e);
-    }
+    check_survey(w)?;
     let count = w.count as u64;
     let first = body::HEADER_ID_SIZE + vlq::size(count);
     if out.len() < first {
-        return Wrote::Refused(refusal::OUTPUT_SHORT);
+        return Err(Refusal::OutputShort);
     }
     if out.len() - first < fields.len() {
-        return Wrote::Refused(refusal::OUTPUT_SHORT);
+        return Err(Refusal::OutputShort);
     }
     output::put_bytes(out, 0, &header_id);
     vlq::put(out, body::HEADER_ID_SIZE, count);
     output::put_bytes(out, first, fields);
-    Wrote::Bytes(first + fields.len())
+    Ok(first + fields.len())
 }
 
 fn survey_fields(fields: &[u8]) -> Survey
@@ -53,21 +55,13 @@ fn survey_fields(fields: &[u8]) -> Survey
     let mut count: usize = 0;
     let mut long = false;
     let mut at: usize = 0;
-    let mut left = fields.len();
-    while 0 < left {
-        if fields.len() <= at {
-            return Survey {
-                count,
-                long,
-                cut: 0,
-            };
-        }
+    while at < fields.len() {
         let room = fields.len() - at;
         if room < 3 {
             return Survey {
                 count,
                 long,
-                cut: refusal::FIELD_HEADER_CUT,
+                whole: Err(Refusal::FieldHeaderCut),
             };
         }
         let n = fields[at + 2] as usize;
@@ -75,57 +69,52 @@ fn survey_fields(fields: &[u8]) -> Survey
             return Survey {
                 count,
                 long,
-                cut: refusal::VALUE_CUT,
+                whole: Err(Refusal::ValueCut),
             };
         }
         count += 1;
-        long = long | (body::VALUE_MOST < n);
-        at = at + 3 + n;
-        left -= 1;
+        long |= body::VALUE_MOST < n;
+        at += 3 + n;
     }
     Survey {
         count,
         long,
-        cut: 0,
+        whole: Ok(()),
     }
 }
 
-fn pack_refusal(w: Survey) -> u8
-    ensures { result ≡ survey_refusal w }
+fn check_survey(w: Survey) -> Result<(), Refusal>
+    ensures { result ≡ check_survey w }
 {
     if FIELDS_MOST < w.count {
-        return refusal::INPUT_LONG;
+        return Err(Refusal::InputLong);
     }
     if w.long {
-        return refusal::WRITTEN_VALUE_LONG;
+        return Err(Refusal::WrittenValueLong);
     }
-    w.cut
+    w.whole
 }
 
 // Writes parameters as fields, in the order of signed ids; 124 is dropped.
-pub fn pack_parameters_to_kv(params: ParameterMap, out: &mut [u8]) -> Wrote
+pub fn pack_parameters_to_kv(params: ParameterMap, out: &mut [u8]) -> Result<usize, Refusal>
     ensures out_after { outcome result out.new ≡ pack_parameters params out.old }
     ensures reads_back { (header : List ℕ) → length header ≡ 32 → ParametersBack params header }
 {
     let n = entries_size(params);
     if out.len() < n {
-        return Wrote::Refused(refusal::OUTPUT_SHORT);
+        return Err(Refusal::OutputShort);
     }
     put_entries(out, params);
-    Wrote::Bytes(n)
+    Ok(n)
 }
 
 fn entries_size(params: ParameterMap) -> usize
     ensures { result ≡ length (parameter_bytes params) }
 {
     let mut n: usize = 0;
-    let mut id: u8 = 128;
-    let mut left: usize = 256;
-    while 0 < left {
-        let v = params.get(id);
-        n += entry_size(id, v);
-        id = std::num::wrapping_add_u8(id, 1);
-        left -= 1;
+    for k in 0..=255 {
+        let id = std::num::wrapping_add_u8(k, 128);
+        n += entry_size(id, params.get(id));
     }
     n
 }
@@ -149,14 +138,11 @@ fn put_entries(out: &mut [u8], params: ParameterMap)
     ensures { out.new ≡ sets out.old 0 (parameter_bytes params) }
 {
     let mut at: usize = 0;
-    let mut id: u8 = 128;
-    let mut left: usize = 256;
-    while 0 < left {
+    for k in 0..=255 {
+        let id = std::num::wrapping_add_u8(k, 128);
         let v = params.get(id);
         put_entry(out, at, id, v);
         at += entry_size(id, v);
-        id = std::num::wrapping_add_u8(id, 1);
-        left -= 1;
     }
 }
 

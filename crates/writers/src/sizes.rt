@@ -7,14 +7,7 @@ ghost use Rattle.extension.specs.Encode.{sum};
 pub fn any_above(sizes: &[u32], most: u32) -> bool
     ensures { result ≡ any (nat_lt most) sizes.now }
 {
-    let mut i: usize = 0;
-    while i < sizes.len() {
-        if most < sizes[i] {
-            return true;
-        }
-        i += 1;
-    }
-    false
+    sizes.iter().any(|size| most < *size)
 }
 
 // Whether the sizes together are a number.
@@ -22,14 +15,12 @@ pub fn sum_is(sizes: &[u32], n: usize) -> bool
     ensures { result ≡ (sum sizes.now == n) }
 {
     let mut left = n;
-    let mut i: usize = 0;
-    while i < sizes.len() {
-        let size = sizes[i] as usize;
+    for size in sizes {
+        let size = *size as usize;
         if left < size {
             return false;
         }
         left -= size;
-        i += 1;
     }
     left == 0
 }

@@ -12,12 +12,8 @@ pub fn table_parameters(table: Table) -> ParameterMap
     ensures carried { TableCarried table result }
 {
     let mut m = parameters::no_parameters();
-    let mut k: usize = 0;
-    while k < 12 {
-        let id = parameters::TABLE_IDS[k];
-        let v = table.get(id);
-        m = m.with(id, v);
-        k += 1;
+    for id in parameters::TABLE_IDS {
+        m = m.with(id, table.get(id));
     }
     m
 }

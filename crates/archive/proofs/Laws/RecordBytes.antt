@@ -7,12 +7,12 @@ use native.Mathlib.Nat.{mod-eq_of_lt}
 use native.Mathlib.Omega.{arith}
 use lib.ListN.{length, get_or, drop, length-append, length-drop}
 use lib.Seq.{get_or-drop}
+use Rattle.std.specs.Prelude.{Ok}
 use Rattle.codec.specs.BigEndian.{big_endian, big_endian_bytes}
 use Rattle.codec.proofs.Laws.BigEndian.{bytes-length, number-of-bytes, bytes_small, bytes-of-number}
 use Rattle.extension.specs.Section.{part}
 use Rattle.extension.proofs.Laws.Parts.{part_length, part_join, part-cons, drop_past}
 use Rattle.archive.specs.declared.record.RecordPlace.{RecordPlace}
-use Rattle.archive.specs.declared.record.RecordAt.TheVariants.{Whole}
 use Rattle.archive.specs.Record.{tagged_bytes, record_bytes, body_most, record_at, place_of, Encodes, RecordExact}
 use Rattle.headers.proofs.Laws.Headers.{drop-three}
 use Rattle.archive.proofs.Laws.Record.{size_of, Here, here, ends-here}
@@ -161,7 +161,7 @@ module _ (height : ℕ) (body votes rest : List ℕ) (f : height < 2 ^ 32) (b : 
   height-there =
       sym (ap (λ (l : List ℕ). big_endian (get_or l 3 0 ∷ get_or l 4 0 ∷ get_or l 5 0 ∷ get_or l 6 0 ∷ [])) first-at ∙ number-of-bytes 4 height ∙ mod-eq_of_lt f)
 
-  read_back : record_at full (length votes) ≡ Whole (place_of height (length body) (length votes))
+  read_back : record_at full (length votes) ≡ Ok (place_of height (length body) (length votes))
   read_back =
       sym (three-whole full (length votes) (place_of height (length body) (length votes))
       (record {
@@ -180,7 +180,7 @@ record-exact s size small =
     record {
       is-encoded = λ p q. encodes s size small p (whole-three s size p (sym q));
       is_read = λ height body votes rest f b v k e.
-          subst (λ (n : ℕ). record_at s n ≡ Whole (place_of height (length body) n)) v
-          (subst (λ (t : List ℕ). record_at t (length votes) ≡ Whole (place_of height (length body) (length votes))) (sym e)
+          subst (λ (n : ℕ). record_at s n ≡ Ok (place_of height (length body) n)) v
+          (subst (λ (t : List ℕ). record_at t (length votes) ≡ Ok (place_of height (length body) (length votes))) (sym e)
           (read_back height body votes rest f b (subst (λ (n : ℕ). n < 2 ^ 16) (sym v) k)));
     }

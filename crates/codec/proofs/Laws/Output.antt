@@ -1,9 +1,13 @@
 -- Stores at a position of a list, and how they join: the laws that serve every writer into a lent buffer.
 -- Assumes nothing.
-use Rattle.std.proofs.Common.{◌≡◌, ℕ, zero, suc, ◌+◌, ◌<◌, ◌≤◌, List, [], ◌∷◌, ◌++◌, length, get_or, drop, set, refl, add-zero, zero-add, add-one, arith, drop_of_length-le, drop-cons, le-leb}
+use Rattle.std.proofs.Common.{Err, ◌≡◌, ℕ, ◌+◌, ◌-◌, suc, ◌<◌, ◌≤◌, min, List, [], ◌∷◌, ◌++◌, length, take, drop, set, sym, refl, ap, ◌∙◌, add-zero, zero-add, arith, length-drop, length-take-le, take_all, take-append-drop, le-leb}
 use borrow.Author.Tests.{lt-leb}
-use lib.Seq.{sets, sets-eq, set_out}
-use Rattle.codec.specs.Refusal.{output_short}
+use lib.Seq.{sets, sets-eq, set_out, length-sets}
+use borrow.Rule.Slice.PartMut.{put_mid}
+use Rattle.std.proofs.lemmas.Slice.{put_mid-paste}
+use Rattle.codec.specs.declared.refusal.Refusal.TheVariants.{OutputShort}
+use Rattle.codec.specs.declared.refusal.Refusal.{Refusal}
+use Rattle.codec.specs.Check.{Check, passed}
 use Rattle.codec.specs.Output.{wrote, refused, writes, writing}
 
 -- a run of stores, and then another
@@ -20,17 +24,26 @@ sets-out (b ∷ bytes) cells at h =
     let h' : length cells ≤ suc at = omega arith in
     rw (set_out cells at b h) (sets-out bytes cells (suc at) h')
 
--- the stores that are left after i of them: none, or one and then the others
-module _ (bytes : List ℕ) (i : ℕ) where
-  pub sets-none : length bytes ≤ i → (cells : List ℕ) (k : ℕ) → sets cells k (drop i bytes) ≡ cells
-  sets-none h cells k = rw (drop_of_length-le bytes h)
+-- as many stores as there is room for
+sets-rest : (bytes cells : List ℕ) (at : ℕ) → (0 < length bytes → length cells ≤ at) → sets cells at bytes ≡ cells
+sets-rest [] cells at h = refl
+sets-rest (b ∷ bytes) cells at h = sets-out (b ∷ bytes) cells at (h (omega arith))
 
-  pub sets-one : i < length bytes → (cells : List ℕ) (k : ℕ) → sets cells k (drop i bytes) ≡ sets (set cells k (get_or bytes i 0)) (k + 1) (drop (i + 1) bytes)
-  sets-one h cells k = rw (drop-cons bytes i 0 h, add-one k, add-one i)
+pub sets-room : (bytes cells part : List ℕ) (at n : ℕ) → at < length cells → n ≡ min (length bytes) (length cells - at) → part ≡ take n bytes
+    → put_mid at (at + n - at) cells part ≡ sets cells at bytes
+sets-room bytes cells part at n h e p =
+    let l : length (take n bytes) ≡ n = length-take-le n bytes (omega arith) in
+    let whole = put_mid-paste at (at + n - at) cells part (take n bytes) (length (take n bytes)) p (omega arith) refl in
+    let front = sets-eq (take n bytes) cells at (omega arith) in
+    let rest = sets-rest (drop n bytes) (sets cells at (take n bytes)) (at + length (take n bytes))
+    (λ r. omega (arith, length-drop n bytes, length-sets cells at (take n bytes))) in
+    let all = sets-append (take n bytes) (drop n bytes) cells at in
+    whole ∙ ap (λ (b : List ℕ). take at cells ++ b ++ drop (at + length (take n bytes)) cells) (take_all (length (take n bytes)) (take n bytes) (omega arith))
+    ∙ sym (all ∙ rest ∙ front) ∙ ap (sets cells at) (take-append-drop n bytes)
 
 -- a writer's outcome, by its test of the buffer's length: n is the number of bytes that it wants to write
 module _ (bytes cells : List ℕ) (n : ℕ) (e : n ≡ length bytes) where
-  pub short : length cells < n → refused output_short cells ≡ writes bytes cells
+  pub short : length cells < n → refused OutputShort cells ≡ writes bytes cells
   unfolding writes
   short h = let h' : length cells < length bytes = omega arith in rw (lt-leb _ _ h')
 
@@ -41,16 +54,12 @@ module _ (bytes cells : List ℕ) (n : ℕ) (e : n ≡ length bytes) where
       let h'' : 0 + length bytes ≤ length cells = omega arith in
       rw (q, le-leb _ _ h', sets-eq bytes cells 0 h'', zero-add, e)
 
--- a writer's outcome, by a refusal that comes before the test of the length, 0 for none
-module _ (bytes cells : List ℕ) (e : ℕ) where
-  pub writing-stop : (e ≡ 0 → ⊥) → refused e cells ≡ writing e bytes cells
+-- a writer's outcome, by a check that comes before the test of the length
+module _ (bytes cells : List ℕ) (c : Check) where
+  pub writing-stop : (e : Refusal) → c ≡ Err e → refused e cells ≡ writing c bytes cells
   unfolding writing
-  writing-stop h = go e h
-    where
-      go : (e : ℕ) → (e ≡ 0 → ⊥) → refused e cells ≡ writing e bytes cells
-      go zero h = absurd (h refl)
-      go (suc e) h = refl
+  writing-stop e q = rw q
 
-  pub writing-go : e ≡ 0 → writing e bytes cells ≡ writes bytes cells
+  pub writing-go : c ≡ passed → writing c bytes cells ≡ writes bytes cells
   unfolding writing
   writing-go q = rw q

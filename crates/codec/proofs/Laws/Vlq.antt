@@ -1,8 +1,8 @@
 -- What the VLQ definitions say at a position of a list, one byte at a time, and at a width.
 -- Assumes nothing.
-use Rattle.std.proofs.Common.{◌≡◌, ℕ, zero, suc, ◌+◌, ◌-◌, ◌*◌, ◌/◌, ◌%◌, ◌^◌, ◌<◌, ◌≤◌, ltb, List, [], ◌∷◌, length, get_or, drop, set, refl, ap, add-one, sub-one, arith, drop_of_length-le, drop-cons, le-ltb, lt-ltb}
+use Rattle.std.proofs.Common.{◌≡◌, ℕ, zero, suc, ◌+◌, ◌-◌, ◌*◌, ◌/◌, ◌%◌, ◌^◌, ◌<◌, ◌≤◌, Bool, true, false, cond, ltb, List, [], ◌∷◌, length, get_or, drop, set, refl, ap, add-one, sub-one, pow-suc, arith, drop_of_length-le, drop-cons, le-ltb, lt-ltb}
 use lib.Seq.{sets}
-use Rattle.codec.specs.Vlq.{Found, found, unreadable, continued, byte, number_of, low64, below, placed, shortest_of}
+use Rattle.codec.specs.Vlq.{Found, found, unreadable, continued, byte, number_of, low64, below, placed, shortest_of, vlq_bytes}
 use Rattle.codec.specs.declared.vlq.Number.{Number}
 use Rattle.std.specs.Prelude.{Some, None}
 
@@ -83,31 +83,49 @@ module _ (at limit : ℕ) where
   unread unreadable e = refl
 
 -- the shortest form, one byte at a time
-pub shortest-none : (n x : ℕ) → n ≤ 0 → shortest_of n x ≡ []
-unfolding shortest_of
-shortest-none n x h = let e : n ≡ 0 = omega arith in rw e
-
-pub shortest-last : (n x : ℕ) → 0 < n → x < 128 → shortest_of n x ≡ x ∷ []
+shortest-last : (n x : ℕ) → 0 < n → x < 128 → shortest_of n x ≡ x ∷ []
 unfolding shortest_of
 shortest-last zero x h l = absurd (omega arith)
 shortest-last (suc n) x h l = rw (lt-ltb x 128 l)
 
-pub shortest-more : (n x : ℕ) → 0 < n → 128 ≤ x → shortest_of n x ≡ (128 + x % 128) ∷ shortest_of (n - 1) (x / 128)
+shortest-more : (n x : ℕ) → 0 < n → 128 ≤ x → shortest_of n x ≡ (128 + x % 128) ∷ shortest_of (n - 1) (x / 128)
 unfolding shortest_of
 shortest-more zero x h l = absurd (omega arith)
 shortest-more (suc n) x h l = rw (le-ltb x 128 l, sub-one)
 
--- the bytes that are left to write and their number, after one more
+-- how many bytes it takes
 module _ (n x : ℕ) (h : 0 < n) where
-  pub put_last : (cells : List ℕ) (i : ℕ) → x < 128 → sets cells i (shortest_of n x) ≡ set cells i x
-  put_last cells i l = rw (shortest-last n x h l)
-
-  pub put-more : (cells : List ℕ) (i : ℕ) → 128 ≤ x
-      → sets cells i (shortest_of n x) ≡ sets (set cells i (128 + x % 128)) (i + 1) (shortest_of (n - 1) (x / 128))
-  put-more cells i l = rw (shortest-more n x h l, add-one)
-
   pub length_last : x < 128 → length (shortest_of n x) ≡ 1
   length_last l = ap length (shortest-last n x h l)
 
   pub length_more : 128 ≤ x → length (shortest_of n x) ≡ suc (length (shortest_of (n - 1) (x / 128)))
   length_more l = ap length (shortest-more n x h l)
+
+pub length_one : (x : ℕ) → length (shortest_of 1 x) ≡ 1
+unfolding shortest_of
+length_one x = go (ltb x 128)
+  where
+    go : (q : Bool) → length (cond q (x ∷ []) ((128 + x % 128) ∷ [])) ≡ 1
+    go true = refl
+    go false = refl
+
+-- where n bytes are enough, more change nothing
+enough : (n x : ℕ) → x < 128 ^ suc n → shortest_of (suc n) x ≡ shortest_of (suc (suc n)) x
+unfolding shortest_of
+enough zero x h = rw (lt-ltb x 128 (omega arith))
+enough (suc n) x h = go (ltb x 128) (enough n (x / 128) (omega (arith, pow-suc 128 (suc n))))
+  where
+    go : (q : Bool) → shortest_of (suc n) (x / 128) ≡ shortest_of (suc (suc n)) (x / 128)
+        → cond q (x ∷ []) ((128 + x % 128) ∷ shortest_of (suc n) (x / 128)) ≡ cond q (x ∷ []) ((128 + x % 128) ∷ shortest_of (suc (suc n)) (x / 128))
+    go true e = refl
+    go false e = rw e
+
+-- the bytes that are left to write, after one more
+module _ (x : ℕ) (cells : List ℕ) (i : ℕ) where
+  pub put_last : x < 128 → sets cells i (vlq_bytes x) ≡ set cells i x
+  unfolding vlq_bytes
+  put_last l = rw (shortest-last 10 x (omega arith) l)
+
+  pub put-more : x < 2 ^ 64 → 128 ≤ x → sets cells i (vlq_bytes x) ≡ sets (set cells i (128 + x % 128)) (i + 1) (vlq_bytes (x / 128))
+  unfolding vlq_bytes
+  put-more h l = rw (shortest-more 10 x (omega arith) l, add-one, enough 8 (x / 128) (omega arith))

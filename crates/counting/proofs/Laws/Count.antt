@@ -1,14 +1,14 @@
--- Counts: how large they are, of a list joined to another, and from a position on.
+-- Counts: how large they are, of a list joined to another, and as std counts.
 -- Assumes nothing.
-use mathlib.Core.Path.{◌≡◌, sym, ap, ◌∙◌}
+use mathlib.Core.Path.{◌≡◌, refl, sym, ◌∙◌}
 use mathlib.Core.Bool.{Bool, true, false, not, cond}
 use mathlib.Core.List.{List, [], ◌∷◌, ◌++◌}
-use Prim.Native.Nat.{ℕ, zero, suc, ◌+◌, ◌≤◌, ◌<◌}
-use native.Mathlib.Numerals.{add-one}
+use Prim.Native.Nat.{ℕ, zero, suc, ◌+◌, ◌≤◌}
 use native.Mathlib.Omega.{arith}
+use Rattle.std.specs.List.{count_by}
+use Rattle.std.proofs.lemmas.List.Recursion.{is_count_by}
 use lib.Dec.{ltb}
-use lib.ListN.{length, get_or, drop, drop_of_length-le}
-use lib.Seq.{drop-cons}
+use lib.ListN.{length}
 use borrow.Author.Tests.{ltb-false, lt-ltb, le-ltb}
 use Rattle.counting.specs.Count.{count}
 
@@ -48,20 +48,7 @@ count_less p xs = more (count p xs) (count (λ x. not (p x)) xs) (length xs) (co
 pub count_none : {A : Type 0} (p : A → Bool) (xs : List A) {r : Bool} → r ≡ ltb 0 (count p xs) → r ≡ false → count p xs ≡ 0
 count_none p xs e q = omega (arith, ltb-false 0 (count p xs) (sym e ∙ q))
 
--- from a position on
-module _ (p : ℕ → Bool) (s : List ℕ) where
-  pub count-here : (i : ℕ) → i < length s → count p (drop i s) ≡ cond (p (get_or s i 0)) 1 0 + count p (drop (i + 1) s)
-  unfolding count
-  count-here i h = rw (drop-cons s i 0 h, add-one)
-
-  pub count-end : (i : ℕ) → length s ≤ i → count p (drop i s) ≡ 0
-  unfolding count
-  count-end i h = rw (drop_of_length-le s h)
-
-  -- the same place, named by another sum
-  pub count-moved : (i j : ℕ) → i ≡ j → count p (drop i s) ≡ count p (drop j s)
-  count-moved i j e = ap (λ (k : ℕ). count p (drop k s)) e
-
-  -- one place further, counted from another
-  pub count-on : (at j : ℕ) → at + j < length s → count p (drop (at + j) s) ≡ cond (p (get_or s (at + j) 0)) 1 0 + count p (drop (at + (j + 1)) s)
-  count-on at j h = count-here (at + j) h ∙ ap (λ (k : ℕ). cond (p (get_or s (at + j) 0)) 1 0 + k) (count-moved (at + j + 1) (at + (j + 1)) (omega arith))
+-- std counts alike
+pub count-is_count_by : {A : Type 0} (p : A → Bool) (xs : List A) → count p xs ≡ count_by p xs
+unfolding count
+count-is_count_by p xs = is_count_by (count p) p refl (λ x ys. grind arith) xs

@@ -1,12 +1,9 @@
 use mathlib.Core.Path.{◌≡◌}
-use Prim.Native.Nat.{◌+◌, ◌*◌, ◌-◌, ◌≤◌}
+use Prim.Native.Nat.{◌+◌, ◌*◌, ◌≤◌}
 use lib.Dec.{eqb}
 use lib.ListN.{drop}
 use Rattle.counting.specs.Count.{count}
 use Rattle.counting.proofs.times_in.Given as goal
 
 abbrev pub invariant-loop-k : goal.invariant-loop-k
-invariant-loop-k l = (l.n ≤ 192 * l.k) × (l.k ≤ l.blocks) × (l.n + count (eqb l.b) (drop (192 * l.k) l.bytes) ≡ count (eqb l.b) l.bytes)
-
-abbrev pub decreases-loop-k : goal.decreases-loop-k
-decreases-loop-k l = l.blocks - l.k
+invariant-loop-k l = (l.n ≤ 192 * l.k) × (l.n + count (eqb l.b) (drop (192 * l.k) l.bytes) ≡ count (eqb l.b) l.bytes)

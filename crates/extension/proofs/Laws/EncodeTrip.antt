@@ -5,28 +5,27 @@ use mathlib.Core.Bool.{Bool, true, false, cond}
 use mathlib.Core.List.{List, [], ◌∷◌, ◌++◌}
 use Prim.Native.Nat.{ℕ, zero, suc, ◌+◌, ◌-◌, ◌≤◌, ◌<◌}
 use native.Mathlib.Omega.{arith}
-use borrow.Author.Tests.{le-ltb, ltb-false, ne_eqb, eqb-true, eqb-false}
+use borrow.Author.Tests.{le-ltb, ltb-false, ne_eqb}
 use lib.Dec.{ltb, eqb}
-use lib.IntN.{ℤ}
 use lib.ListN.{length, get_or, length-append}
 use lib.Seq.{drop-append_seam, take-append_seam}
 use Rattle.codec.specs.Vlq.{vlq_at, vlq_bytes}
 use Rattle.codec.specs.Rule.{rule_of, offset_of}
-use Rattle.codec.specs.Refusal.{update_unreadable, mandatory_disabled, input_long}
+use Rattle.codec.specs.declared.refusal.Refusal.TheVariants.{UpdateUnreadable, MandatoryDisabled, InputLong}
 use Rattle.codec.specs.declared.vlq.Number.{Number}
-use Rattle.std.specs.Prelude.{Option, Some, None}
+use Rattle.std.specs.Prelude.{Option, Some, None, Result, Ok, Err}
+use Rattle.codec.specs.declared.refusal.Refusal.{Refusal}
+use Rattle.codec.specs.Check.{and_then}
+use Rattle.voting.proofs.Laws.Tests.{then_ok}
 use Rattle.codec.proofs.Laws.Rule.{offset-back}
 use Rattle.codec.proofs.Laws.VlqTrip.{read-inside, Inside}
 use Rattle.voting.specs.Common.{Each}
 use Rattle.extension.specs.declared.section.Section.{Section}
-use Rattle.extension.specs.declared.section.Parsed.{Parsed}
-use Rattle.extension.specs.declared.update.StatusAt.{StatusAt}
-use Rattle.extension.specs.declared.update.StatusAt.TheVariants.{HasStatus, NoStatus}
+use Rattle.extension.specs.declared.update.StatusPlace.{StatusPlace}
 use Rattle.extension.specs.declared.update.Update.{Update}
-use Rattle.extension.specs.declared.update.ParsedUpdate.{ParsedUpdate}
-use Rattle.extension.specs.Section.{Reading, got, bad, Listing, after, listing, items, closed, section, section_items, part, any}
+use Rattle.extension.specs.Section.{Reading, got, bad, Listing, done, stop, item, after, listing, items, closed, section, section_items, part, any}
 use Rattle.extension.specs.Mandatory.{mandatory_rule}
-use Rattle.extension.specs.Update.{Status, placed_rule, rule_at, rule_reading, read_rule, placed_status, offset_then, status_at, status_reading, read_status, count_in, items_from, no_update, refused_update, with_statuses, with_rules, update_of, rules_in, statuses_in}
+use Rattle.extension.specs.Update.{Status, placed_rule, rule_at, rule_reading, read_rule, placed_status, offset_then, status_at, status_reading, read_status, count_in, items_from, no_update, with_rules, update_of, rules_in, statuses_in}
 use Rattle.extension.specs.Encode.{rules_bytes, status_bytes, statuses_bytes, encoded, status_list, sum, ids_of, codes_of, sizes_of, all_raw, Short, next_of, end_of, ShortRules, ShortStatuses, ShortUpdate, UpdateBack, UpdateAgain}
 use Rattle.extension.proofs.Laws.Parts.{part_length, part_join, part-all, part-cons}
 use Rattle.extension.proofs.Laws.Encode.{none-refused}
@@ -47,117 +46,74 @@ joined bytes (x ∷ xs) = bytes x ++ joined bytes xs
 module _ {A : Type 0} (s : List ℕ) (read : ℕ → Reading A) (bytes : A → List ℕ) (Fine : A → Type 0) where
   abbrev Stands : ℕ → Reading A → Type 0
   Stands at (got a next) = (part s at next ≡ bytes a) × (at < next) × (next ≤ length s) × Fine a
-  Stands at (bad e) = e ≡ 0 → ⊥
+  Stands at (bad e) = Unit {0}
 
   abbrev pub Chain : ℕ → ℕ → Type 0
   Chain zero at = Unit {0}
   Chain (suc n) at = Stands at (read at) × Chain n (next-of (read at))
 
-  module _ (n₀ b₀ : ℕ) where
+  module _ (n₀ b₀ end : ℕ) where
     record AllRead (n at : ℕ) (l : Listing A) : Type 0 where
-      end : ℕ
-      is : closed n₀ b₀ l ≡ record { refusal = 0; section = section n₀ b₀ end }
       many : length (items l) ≡ n
       least : at + n ≤ end
       within : end ≤ length s
       bytes-are : part s at end ≡ joined bytes (items l)
       fine : Each Fine (items l)
 
-    all_read : (n at : ℕ) → at ≤ length s → Chain n at → (closed n₀ b₀ (listing read n at)).refusal ≡ 0 → AllRead n at (listing read n at)
+    all_read : (n at : ℕ) → at ≤ length s → Chain n at → closed n₀ b₀ (listing read n at) ≡ Ok (section n₀ b₀ end) → AllRead n at (listing read n at)
     unfolding listing after closed items
-    all_read zero at h c e = record { end = at; is = refl; many = refl; least = omega arith; within = h; bytes-are = part_none s at; fine = tt }
+    all_read zero at h c e =
+        let p : section n₀ b₀ at ≡ section n₀ b₀ end = cc in
+        let q : at ≡ end = ap (λ (x : Section). x.end) p in
+        record { many = refl; least = omega arith; within = omega arith; bytes-are = ap (part s at) (sym q) ∙ part_none s at; fine = tt }
     all_read (suc n) at h c e = go (read at) c e (λ k i d f. all_read n k i d f)
       where
-        go : (g : Reading A) → Stands at g × Chain n (next-of g) → (closed n₀ b₀ (after g (listing read n))).refusal ≡ 0
-            → ((k : ℕ) → k ≤ length s → Chain n k → (closed n₀ b₀ (listing read n k)).refusal ≡ 0 → AllRead n k (listing read n k)) → AllRead (suc n) at (after g (listing read n))
+        go : (g : Reading A) → Stands at g × Chain n (next-of g) → closed n₀ b₀ (after g (listing read n)) ≡ Ok (section n₀ b₀ end)
+            → ((k : ℕ) → k ≤ length s → Chain n k → closed n₀ b₀ (listing read n k) ≡ Ok (section n₀ b₀ end) → AllRead n k (listing read n k)) → AllRead (suc n) at (after g (listing read n))
         go (got a next) c e more =
             let r = more next c.0.2 c.1 e in
             record {
-              end = r.end;
-              is = r.is;
               many = ap suc r.many;
               least = omega (arith, c.0.1, r.least);
               within = r.within;
-              bytes-are = sym (part_join s at next r.end (omega (arith, c.0.1)) (omega (arith, r.least))) ∙ rw (c.0.0, r.bytes-are);
+              bytes-are = sym (part_join s at next end (omega (arith, c.0.1)) (omega (arith, r.least))) ∙ rw (c.0.0, r.bytes-are);
               fine = (c.0.3, r.fine);
             }
-        go (bad m) c e more = absurd (c.0 e)
+        go (bad m) c e more = cc
 
--- a reader whose refusals have numbers other than 0: what a section says that was read without a refusal
-abbrev Stops : {A : Type 0} → Reading A → Type 0
-Stops (got a next) = Unit {0}
-Stops (bad e) = e ≡ 0 → ⊥
+-- a section that was read is the one that was asked for
+closed-is : {A : Type 0} (n b : ℕ) (l : Listing A) (x : Section) → closed n b l ≡ Ok x → x ≡ section n b x.end
+unfolding closed
+closed-is n b (done end) x e = let q : section n b end ≡ x = cc in subst (λ (y : Section). y ≡ section n b y.end) q refl
+closed-is n b (stop m) x e = cc
+closed-is n b (item a l) x e = closed-is n b l x e
 
-module _ {A : Type 0} (read : ℕ → Reading A) (stops : (at : ℕ) → Stops (read at)) where
-  ends : (n₀ b₀ n at : ℕ) → (closed n₀ b₀ (listing read n at)).refusal ≡ 0
-      → closed n₀ b₀ (listing read n at) ≡ record { refusal = 0; section = section n₀ b₀ (closed n₀ b₀ (listing read n at)).section.end }
-  unfolding listing after closed
-  ends n₀ b₀ zero at e = refl
-  ends n₀ b₀ (suc n) at e = go (read at) (stops at) e (λ k f. ends n₀ b₀ n k f)
-    where
-      go : (g : Reading A) → Stops g → (closed n₀ b₀ (after g (listing read n))).refusal ≡ 0
-          → ((k : ℕ) → (closed n₀ b₀ (listing read n k)).refusal ≡ 0 → closed n₀ b₀ (listing read n k) ≡ record { refusal = 0; section = section n₀ b₀ (closed n₀ b₀ (listing read n k)).section.end })
-          → closed n₀ b₀ (after g (listing read n)) ≡ record { refusal = 0; section = section n₀ b₀ (closed n₀ b₀ (after g (listing read n))).section.end }
-      go (got a next) t e more = more next e
-      go (bad m) t e more = absurd (t e)
-
-  record ItemsRead (x : Option Number) : Type 0 where
+module _ {A : Type 0} (read : ℕ → Reading A) where
+  record ItemsRead (x : Option Number) (y : Section) : Type 0 where
     number : Number
     value-is : x ≡ Some number
-    closed_is : closed (count_in number.value) number.next (listing read (count_in number.value) number.next)
-        ≡ record { refusal = 0; section = section (count_in number.value) number.next (items_from read x).section.end }
-    section-is : (items_from read x).section ≡ section (count_in number.value) number.next (items_from read x).section.end
+    section-is : y ≡ section (count_in number.value) number.next y.end
+    closed_is : closed (count_in number.value) number.next (listing read (count_in number.value) number.next) ≡ Ok (section (count_in number.value) number.next y.end)
 
-  items-read : (x : Option Number) → (items_from read x).refusal ≡ 0 → ItemsRead x
+  items-read : (x : Option Number) (y : Section) → items_from read x ≡ Ok y → ItemsRead x y
   unfolding items_from
-  items-read (Some m) e =
-      let c = ends (count_in m.value) m.next (count_in m.value) m.next e in
-      record { number = m; value-is = refl; closed_is = c; section-is = ap (λ (p : Parsed). p.section) c }
-  items-read None e = absurd (omega arith)
+  items-read (Some m) y e =
+      let q = closed-is (count_in m.value) m.next (listing read (count_in m.value) m.next) y e in
+      record { number = m; value-is = refl; section-is = q; closed_is = e ∙ ap Ok q }
+  items-read None y e = cc
 
-rule-stops : (s : List ℕ) (at : ℕ) → Stops (read_rule s at)
-unfolding read_rule rule_at placed_rule rule_reading
-rule-stops s at = go (vlq_at 16 s at)
-  where
-    go : (x : Option Number) → Stops (rule_reading (placed_rule x))
-    go (Some m) = tt
-    go None = λ e. omega arith
-
-status-stops : (s : List ℕ) (at : ℕ) → Stops (read_status s at)
-unfolding read_status status_at offset_then placed_status status_reading
-status-stops s at = go (vlq_at 16 s at)
-  where
-    cut : (rule : ℤ) (k : Number) (b : Bool) → Stops (status_reading s (cond b (NoStatus update_unreadable)
-        (HasStatus (record { rule = record { 0 = rule }; code = get_or s k.next 0; start = k.next + 1; end = k.next + 1 + k.value }))))
-    cut rule k true = λ e. omega arith
-    cut rule k false = tt
-
-    size : (rule : ℤ) (y : Option Number) → Stops (status_reading s (placed_status s rule y))
-    size rule (Some k) = cut rule k (ltb (length s) (k.next + 1 + k.value))
-    size rule None = λ e. omega arith
-
-    go : (x : Option Number) → Stops (status_reading s (offset_then s x))
-    go (Some m) = size (rule_of m.value) (vlq_at 16 s m.next)
-    go None = λ e. omega arith
-
--- the parts of an update that was read without a refusal
-module _ (s : List ℕ) where
-  rules-then : (x : Parsed) → (with_rules s x).refusal ≡ 0
-      → (x.refusal ≡ 0) × ((items_from (read_status s) (vlq_at 32 s x.section.end)).refusal ≡ 0)
-      × ((with_rules s x).update ≡ record { rules = x.section; statuses = (items_from (read_status s) (vlq_at 32 s x.section.end)).section })
-  unfolding with_rules with_statuses
-  rules-then x = go (eqb x.refusal 0) (any mandatory_rule (section_items (read_rule s) x.section)) (items_from (read_status s) (vlq_at 32 s x.section.end)) refl
+-- the parts of an update that was read
+module _ (s : List ℕ) (rules : Section) where
+  rules-then : (u : Update) → with_rules s rules ≡ Ok u
+      → (statuses : Section) × (items_from (read_status s) (vlq_at 32 s rules.end) ≡ Ok statuses) × (u ≡ record { rules = rules; statuses = statuses })
+  unfolding with_rules
+  rules-then u = go (any mandatory_rule (section_items (read_rule s) rules)) (items_from (read_status s) (vlq_at 32 s rules.end))
     where
-      last : (y : Parsed) (d : Bool) → eqb y.refusal 0 ≡ d → (cond d (record { refusal = 0; update = record { rules = x.section; statuses = y.section } }) (refused_update y.refusal)).refusal ≡ 0
-          → (y.refusal ≡ 0) × ((cond d (record { refusal = 0; update = record { rules = x.section; statuses = y.section } }) (refused_update y.refusal)).update ≡ record { rules = x.section; statuses = y.section })
-      last y true q e = (eqb-true y.refusal 0 q, refl)
-      last y false q e = absurd (eqb-false y.refusal 0 q e)
-
-      go : (a b : Bool) (y : Parsed) → eqb x.refusal 0 ≡ a → (cond a (cond b (refused_update mandatory_disabled) (with_statuses x.section y)) (refused_update x.refusal)).refusal ≡ 0
-          → (x.refusal ≡ 0) × (y.refusal ≡ 0) × ((cond a (cond b (refused_update mandatory_disabled) (with_statuses x.section y)) (refused_update x.refusal)).update ≡ record { rules = x.section; statuses = y.section })
-      go true true y p e = absurd (omega arith)
-      go true false y p e = let l = last y (eqb y.refusal 0) refl e in (eqb-true x.refusal 0 p, l.0, l.1)
-      go false b y p e = absurd (eqb-false x.refusal 0 p e)
+      go : (b : Bool) (x : Result Section Refusal) → cond b (Err MandatoryDisabled) (and_then x (λ y. Ok (record { rules = rules; statuses = y }))) ≡ Ok u
+          → (statuses : Section) × (x ≡ Ok statuses) × (u ≡ record { rules = rules; statuses = statuses })
+      go true x e = cc
+      go false (Ok y) e = (y, refl, (let q : record { rules = rules; statuses = y } ≡ u = cc in sym q))
+      go false (Err m) e = cc
 
 -- rules in shortest form stand where they were read
 abbrev Any : {A : Type 0} → A → Type 0
@@ -171,7 +127,7 @@ rules-chain s (suc n) at h = go (vlq_at 16 s at) refl h (λ k g. rules-chain s n
     go : (x : Option Number) → x ≡ vlq_at 16 s at → Short s at x × ShortRules n s (next_of x) → ((k : ℕ) → ShortRules n s k → Chain s (read_rule s) vlq_bytes Any n k)
         → Stands s (read_rule s) vlq_bytes Any at (rule_reading (placed_rule x)) × Chain s (read_rule s) vlq_bytes Any n (next-of (rule_reading (placed_rule x)))
     go (Some m) q h more = let i = read-inside 16 at s m q in ((h.0, i.after, i.inside, tt), more m.next h.1)
-    go None q h more = ((λ e. omega arith), more 0 h.1)
+    go None q h more = (tt, more 0 h.1)
 
 rules-joined : (rules : List ℕ) → joined vlq_bytes rules ≡ rules_bytes rules
 unfolding rules_bytes
@@ -199,16 +155,16 @@ unfolding read_status status_at offset_then placed_status status_reading
 statuses-chain s zero at h = tt
 statuses-chain s (suc n) at h = go (vlq_at 16 s at) refl h.0 h.1 h.2 (λ k g. statuses-chain s n k g)
   where
-    Next : StatusAt → Type 0
+    Next : Result StatusPlace Refusal → Type 0
     Next x = Stands s (read_status s) status_bytes Fine at (status_reading s x) × Chain s (read_status s) status_bytes Fine n (next-of (status_reading s x))
 
     cut : (m k : Number) (b : Bool) → ltb (length s) (k.next + 1 + k.value) ≡ b → Inside 16 (length s) at m → Inside 16 (length s) m.next k
         → part s at m.next ≡ vlq_bytes m.value → part s m.next k.next ≡ vlq_bytes k.value
-        → ShortStatuses n s (end_of (cond b (NoStatus update_unreadable)
-        (HasStatus (record { rule = record { 0 = rule_of m.value }; code = get_or s k.next 0; start = k.next + 1; end = k.next + 1 + k.value }))))
+        → ShortStatuses n s (end_of (cond b (Err UpdateUnreadable)
+        (Ok (record { rule = record { 0 = rule_of m.value }; code = get_or s k.next 0; start = k.next + 1; end = k.next + 1 + k.value }))))
         → ((a : ℕ) → ShortStatuses n s a → Chain s (read_status s) status_bytes Fine n a)
-        → Next (cond b (NoStatus update_unreadable) (HasStatus (record { rule = record { 0 = rule_of m.value }; code = get_or s k.next 0; start = k.next + 1; end = k.next + 1 + k.value })))
-    cut m k true t i j p q h more = ((λ e. omega arith), more 0 h)
+        → Next (cond b (Err UpdateUnreadable) (Ok (record { rule = record { 0 = rule_of m.value }; code = get_or s k.next 0; start = k.next + 1; end = k.next + 1 + k.value })))
+    cut m k true t i j p q h more = (tt, more 0 h)
     cut m k false t i j p q h more =
         let inside : k.next + 1 + k.value ≤ length s = ltb-false (length s) (k.next + 1 + k.value) t in (
           (
@@ -224,12 +180,12 @@ statuses-chain s (suc n) at h = go (vlq_at 16 s at) refl h.0 h.1 h.2 (λ k g. st
         → ShortStatuses n s (end_of (placed_status s (rule_of m.value) y)) → ((a : ℕ) → ShortStatuses n s a → Chain s (read_status s) status_bytes Fine n a)
         → Next (placed_status s (rule_of m.value) y)
     size m (Some k) e i p q h more = cut m k (ltb (length s) (k.next + 1 + k.value)) refl i (read-inside 16 m.next s k e) p q h more
-    size m None e i p q h more = ((λ e. omega arith), more 0 h)
+    size m None e i p q h more = (tt, more 0 h)
 
     go : (x : Option Number) → x ≡ vlq_at 16 s at → Short s at x → Short s (next_of x) (vlq_at 16 s (next_of x)) → ShortStatuses n s (end_of (offset_then s x))
         → ((a : ℕ) → ShortStatuses n s a → Chain s (read_status s) status_bytes Fine n a) → Next (offset_then s x)
     go (Some m) e p q h more = size m (vlq_at 16 s m.next) refl (read-inside 16 at s m e) p q h more
-    go None e p q h more = ((λ e. omega arith), more 0 h)
+    go None e p q h more = (tt, more 0 h)
 
 statuses-joined : (xs : List Status) → joined status_bytes xs ≡ statuses_bytes xs
 unfolding statuses_bytes
@@ -266,8 +222,8 @@ module _ (s : List ℕ) (m₁ m₂ : Number) (end₁ end₂ : ℕ) where
   apart = record { rules = section n₁ m₁.next end₁; statuses = section n₂ m₂.next end₂ }
 
   module _ (few : length s ≤ 65536) (q₁ : vlq_at 32 s 0 ≡ Some m₁) (q₂ : vlq_at 32 s end₁ ≡ Some m₂)
-      (c₁ : closed n₁ m₁.next (listing (read_rule s) n₁ m₁.next) ≡ record { refusal = 0; section = section n₁ m₁.next end₁ })
-      (c₂ : closed n₂ m₂.next (listing (read_status s) n₂ m₂.next) ≡ record { refusal = 0; section = section n₂ m₂.next end₂ })
+      (c₁ : closed n₁ m₁.next (listing (read_rule s) n₁ m₁.next) ≡ Ok (section n₁ m₁.next end₁))
+      (c₂ : closed n₂ m₂.next (listing (read_status s) n₂ m₂.next) ≡ Ok (section n₂ m₂.next end₂))
       (h : ShortUpdate s apart) where
     i₁ : Inside 32 (length s) 0 m₁
     i₁ = read-inside 32 0 s m₁ (sym q₁)
@@ -275,17 +231,11 @@ module _ (s : List ℕ) (m₁ m₂ : Number) (end₁ end₂ : ℕ) where
     i₂ : Inside 32 (length s) end₁ m₂
     i₂ = read-inside 32 end₁ s m₂ (sym q₂)
 
-    r₁ : AllRead s (read_rule s) vlq_bytes Any n₁ m₁.next n₁ m₁.next (listing (read_rule s) n₁ m₁.next)
-    r₁ = all_read s (read_rule s) vlq_bytes Any n₁ m₁.next n₁ m₁.next i₁.inside (rules-chain s n₁ m₁.next h.rules-short) (ap (λ (p : Parsed). p.refusal) c₁)
+    r₁ : AllRead s (read_rule s) vlq_bytes Any n₁ m₁.next end₁ n₁ m₁.next (listing (read_rule s) n₁ m₁.next)
+    r₁ = all_read s (read_rule s) vlq_bytes Any n₁ m₁.next end₁ n₁ m₁.next i₁.inside (rules-chain s n₁ m₁.next h.rules-short) c₁
 
-    r₂ : AllRead s (read_status s) status_bytes Fine n₂ m₂.next n₂ m₂.next (listing (read_status s) n₂ m₂.next)
-    r₂ = all_read s (read_status s) status_bytes Fine n₂ m₂.next n₂ m₂.next i₂.inside (statuses-chain s n₂ m₂.next h.statuses-short) (ap (λ (p : Parsed). p.refusal) c₂)
-
-    end-is₁ : r₁.end ≡ end₁
-    end-is₁ = ap (λ (p : Parsed). p.section.end) (sym r₁.is ∙ c₁)
-
-    end-is₂ : r₂.end ≡ end₂
-    end-is₂ = ap (λ (p : Parsed). p.section.end) (sym r₂.is ∙ c₂)
+    r₂ : AllRead s (read_status s) status_bytes Fine n₂ m₂.next end₂ n₂ m₂.next (listing (read_status s) n₂ m₂.next)
+    r₂ = all_read s (read_status s) status_bytes Fine n₂ m₂.next end₂ n₂ m₂.next i₂.inside (statuses-chain s n₂ m₂.next h.statuses-short) c₂
 
     many₁ : length (rules_in s apart) ≡ n₁
     unfolding rules_in section_items
@@ -299,13 +249,13 @@ module _ (s : List ℕ) (m₁ m₂ : Number) (end₁ end₂ : ℕ) where
     unfolding rules_in section_items
     bytes₁ =
         let l = items (listing (read_rule s) n₁ m₁.next) in
-        ap (part s m₁.next) (sym end-is₁) ∙ r₁.bytes-are ∙ rules-joined l
+        r₁.bytes-are ∙ rules-joined l
 
     bytes₂ : part s m₂.next end₂ ≡ statuses_bytes (statuses_in s apart)
     unfolding statuses_in section_items
     bytes₂ =
         let l = items (listing (read_status s) n₂ m₂.next) in
-        ap (part s m₂.next) (sym end-is₂) ∙ r₂.bytes-are ∙ statuses-joined l
+        r₂.bytes-are ∙ statuses-joined l
 
     fine₂ : Each Fine (statuses_in s apart)
     unfolding statuses_in section_items
@@ -314,9 +264,9 @@ module _ (s : List ℕ) (m₁ m₂ : Number) (end₁ end₂ : ℕ) where
     same : encoded (rules_in s apart) (statuses_in s apart) ≡ s
     unfolding encoded
     same =
-        let a : m₁.next ≤ end₁ = omega (arith, r₁.least, end-is₁) in
+        let a : m₁.next ≤ end₁ = omega (arith, r₁.least) in
         let b : end₁ ≤ m₂.next = omega (arith, i₂.after) in
-        let c : m₂.next ≤ end₂ = omega (arith, r₂.least, end-is₂) in
+        let c : m₂.next ≤ end₂ = omega (arith, r₂.least) in
         rw (
           many₁,
           many₂,
@@ -346,34 +296,35 @@ module _ (s : List ℕ) (m₁ m₂ : Number) (end₁ end₂ : ℕ) where
         }
 
 -- an update that was read from bytes which are not too many, and not none
-not-long : (s : List ℕ) → (update_of s).refusal ≡ 0 → length s ≤ 65536
+not-long : (s : List ℕ) (u : Update) → update_of s ≡ Ok u → length s ≤ 65536
 unfolding update_of
-not-long s = go (ltb 65536 (length s)) (cond (eqb (length s) 0) (record { refusal = 0; update = no_update }) (with_rules s (items_from (read_rule s) (vlq_at 32 s 0)))) refl
+not-long s u = go (ltb 65536 (length s)) (cond (eqb (length s) 0) (Ok no_update) (and_then (items_from (read_rule s) (vlq_at 32 s 0)) (with_rules s))) refl
   where
-    go : (b : Bool) (rest : ParsedUpdate) → ltb 65536 (length s) ≡ b → (cond b (refused_update input_long) rest).refusal ≡ 0 → length s ≤ 65536
-    go true rest t e = absurd (omega arith)
+    go : (b : Bool) (rest : Result Update Refusal) → ltb 65536 (length s) ≡ b → cond b (Err InputLong) rest ≡ Ok u → length s ≤ 65536
+    go true rest t e = cc
     go false rest t e = ltb-false 65536 (length s) t
 
-update-is : (s : List ℕ) → length s ≤ 65536 → 0 < length s → update_of s ≡ with_rules s (items_from (read_rule s) (vlq_at 32 s 0))
+update-is : (s : List ℕ) → length s ≤ 65536 → 0 < length s → update_of s ≡ and_then (items_from (read_rule s) (vlq_at 32 s 0)) (with_rules s)
 unfolding update_of
 update-is s h k = rw (le-ltb 65536 (length s) h, ne_eqb (length s) 0 (λ z. omega arith))
 
-pub update-again : (s : List ℕ) → UpdateAgain s (update_of s).update
-update-again s z h =
-    let few = not-long s z in
-    let is = update-is s few h.nonempty in
-    let x = items_from (read_rule s) (vlq_at 32 s 0) in
-    let y = items_from (read_status s) (vlq_at 32 s x.section.end) in
-    let t = rules-then s x (sym (ap (λ (p : ParsedUpdate). p.refusal) is) ∙ z) in
-    let p = items-read (read_rule s) (rule-stops s) (vlq_at 32 s 0) t.0 in
-    let q = items-read (read_status s) (status-stops s) (vlq_at 32 s x.section.end) t.1 in
-    let e : (update_of s).update ≡ apart s p.number q.number x.section.end y.section.end =
-    ap (λ (u : ParsedUpdate). u.update) is ∙ t.2 ∙
-    ap (λ (r : Section). record { rules = r; statuses = y.section }) p.section-is ∙
-    ap (λ (r : Section). record { rules = section (count_in p.number.value) p.number.next x.section.end; statuses = r }) q.section-is in
-    subst⁻¹ (λ (u : Update). UpdateBack s (rules_in s u) (statuses_in s u)) e
-    (back-again s p.number q.number x.section.end y.section.end few p.value-is q.value-is p.closed_is q.closed_is (subst (ShortUpdate s) e h))
+update-back : (s : List ℕ) (u : Update) (x y : Section) → length s ≤ 65536 → ItemsRead (read_rule s) (vlq_at 32 s 0) x → ItemsRead (read_status s) (vlq_at 32 s x.end) y
+    → u ≡ record { rules = x; statuses = y } → ShortUpdate s u → UpdateBack s (rules_in s u) (statuses_in s u)
+update-back s u x y few p q e h =
+    let at : record { rules = x; statuses = y } ≡ apart s p.number q.number x.end y.end =
+    ap (λ (r : Section). record { rules = r; statuses = y }) p.section-is
+    ∙ ap (λ (r : Section). record { rules = section (count_in p.number.value) p.number.next x.end; statuses = r }) q.section-is in
+    let is : u ≡ apart s p.number q.number x.end y.end = e ∙ at in
+    subst⁻¹ (λ (v : Update). UpdateBack s (rules_in s v) (statuses_in s v)) is
+    (back-again s p.number q.number x.end y.end few p.value-is q.value-is p.closed_is q.closed_is (subst (ShortUpdate s) is h))
+
+pub update-again : (s : List ℕ) → UpdateAgain s (update_of s)
+update-again s u z h =
+    let few = not-long s u z in
+    let x = then_ok (items_from (read_rule s) (vlq_at 32 s 0)) (with_rules s) (sym (update-is s few h.nonempty) ∙ z) in
+    let y = rules-then s x.0 u x.2 in
+    update-back s u x.0 y.0 few (items-read (read_rule s) (vlq_at 32 s 0) x.0 x.1) (items-read (read_status s) (vlq_at 32 s x.0.end) y.0 y.1) y.2 h
 
 -- the same of what an update's reader answered
-pub parsed-again : (s : List ℕ) (x : ParsedUpdate) → x ≡ update_of s → (x ≡ update_of s) × UpdateAgain s x.update
-parsed-again s x e = (e, subst⁻¹ (λ (y : ParsedUpdate). UpdateAgain s y.update) e (update-again s))
+pub parsed-again : (s : List ℕ) (x : Result Update Refusal) → x ≡ update_of s → UpdateAgain s x
+parsed-again s x e = subst⁻¹ (UpdateAgain s) e (update-again s)

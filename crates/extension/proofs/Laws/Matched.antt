@@ -1,7 +1,6 @@
 -- 15 carries the least id, by number, whose entry is missing or different.
 -- Assumes nothing.
 use mathlib.Core.Path.{◌≡◌, refl, sym, ap, subst, ◌∙◌}
-use mathlib.Core.Logic.{inl, inr}
 use mathlib.Core.Bool.{Bool, true, false, cond, true≢false}
 use mathlib.Core.List.{List, [], ◌∷◌}
 use Prim.Native.Nat.{ℕ, zero, suc, ◌≤◌, ◌<◌}
@@ -11,13 +10,13 @@ use lib.Dec.{ltb, eqb}
 use lib.IntN.{ℤ}
 use Rattle.voting.specs.Table.{lookup}
 use Rattle.voting.specs.Value.{Value}
-use Rattle.std.specs.Prelude.{None, Some}
+use Rattle.std.specs.Prelude.{None, Some, Result, ⊤}
 use Rattle.voting.specs.declared.table.Table.{Table}
 use Rattle.voting.proofs.Laws.Tests.{by-test}
 use Rattle.voting.proofs.Laws.Table.{absent-number, lookup-none}
 use Rattle.voting.proofs.Laws.Integers.{eq_z-true, eq_z-same}
 use Rattle.extension.specs.declared.parameters.ParameterMap.{ParameterMap}
-use Rattle.extension.specs.declared.parameters.Matched.{Matched}
+use Rattle.extension.specs.declared.parameters.Mismatch.{Mismatch}
 use Rattle.extension.specs.Parameters.{entry_of, agrees, table_ids, first_differing, matched, check_parameters, Stands, LeastCarried}
 
 -- two entries that agree, and two that do not
@@ -67,12 +66,12 @@ module _ (t : Table) where
     found : (id : ℕ) → agrees (lookup t id) (entry_of m id) ≡ false → Below id → LeastCarried t m (matched id)
     unfolding matched agrees
     found zero e h = absurd (true≢false (sym (ap (λ (v : Value). agrees v (entry_of m 0)) (before 0 (omega arith) (omega arith))) ∙ e))
-    found (suc id) e h = inr ((differing (lookup t (suc id)) (entry_of m (suc id)) e, h), refl)
+    found (suc id) e h = (differing (lookup t (suc id)) (entry_of m (suc id)) e, h)
 
     -- the search through such a list
     least : (ids : List ℕ) (from : ℕ) → Rising from ids → Below from → LeastCarried t m (matched (first_differing t m ids))
     unfolding first_differing matched
-    least [] from r h = inl (λ id. past from id h (r id), refl)
+    least [] from r h = λ id. past from id h (r id)
     least (next ∷ ids) from r h =
         let below : Below next = λ id l. past from id h (λ a. r.0 id a l) in
         let Answer : Bool → Type 0 = λ b. LeastCarried t m (matched (cond b (first_differing t m ids) next)) in
@@ -80,6 +79,6 @@ module _ (t : Table) where
         (λ e. subst Answer (sym e) (least ids (suc next) r.1 (next-below next below (agreeing (lookup t next) (entry_of m next) e))))
         (λ e. subst Answer (sym e) (found next e below))
 
-pub least-carried : (t : Table) (m : ParameterMap) (r : Matched) → r ≡ check_parameters t m → (r ≡ check_parameters t m) × LeastCarried t m r
+pub least-carried : (t : Table) (m : ParameterMap) (r : Result ⊤ Mismatch) → r ≡ check_parameters t m → (r ≡ check_parameters t m) × LeastCarried t m r
 unfolding check_parameters
 least-carried t m r e = (e, subst (LeastCarried t m) (sym e) (least t m table_ids 0 (table-ids t) (λ id l. absurd (omega arith))))

@@ -10,7 +10,8 @@ use borrow.Author.Tests.{lt-ltb, le-ltb, lt-leb, le-leb}
 use lib.Dec.{leb}
 use lib.ListN.{length, get_or, drop, length-drop}
 use lib.Seq.{length-take-le}
-use Rattle.codec.specs.Refusal.{field_header_cut, value_cut}
+use Rattle.codec.specs.declared.refusal.Refusal.{Refusal}
+use Rattle.codec.specs.declared.refusal.Refusal.TheVariants.{FieldHeaderCut, ValueCut}
 use Rattle.extension.specs.Section.{got, bad, done, stop, item, after, part}
 use Rattle.extension.specs.Body.{Field}
 use Rattle.extension.specs.Pack.{wire_at, wire_list}
@@ -24,11 +25,11 @@ module _ (s : List ℕ) (at : ℕ) where
   abbrev pub field_there : Field
   field_there = record { key0 = get_or s at 0; key1 = get_or s (at + 1) 0; value = part s (at + 3) (at + 3 + size_at) }
 
-  pub wire-header-cut : length s < at + 3 → wire_at s at ≡ bad field_header_cut
+  pub wire-header-cut : length s < at + 3 → wire_at s at ≡ bad FieldHeaderCut
   unfolding wire_at
   wire-header-cut h = rw (lt-ltb (length s) (at + 3) h)
 
-  pub wire-value-cut : at + 3 ≤ length s → length s < at + 3 + size_at → wire_at s at ≡ bad value_cut
+  pub wire-value-cut : at + 3 ≤ length s → length s < at + 3 + size_at → wire_at s at ≡ bad ValueCut
   unfolding wire_at
   wire-value-cut h k = rw (le-ltb (length s) (at + 3) h, lt-ltb (length s) (at + 3 + size_at) k)
 
@@ -59,7 +60,7 @@ module _ (s : List ℕ) (n at : ℕ) where
     pub wire-end : length s ≤ at → wire_list n s at ≡ done at
     wire-end l = by_one ∙ rw (le-leb (length s) at l)
 
-    pub wire-stop : at < length s → (e : ℕ) → wire_at s at ≡ bad e → wire_list n s at ≡ stop e
+    pub wire-stop : at < length s → (e : Refusal) → wire_at s at ≡ bad e → wire_list n s at ≡ stop e
     unfolding after
     wire-stop l e q = by_one ∙ rw (lt-leb (length s) at l, q)
 

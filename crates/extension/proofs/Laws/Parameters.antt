@@ -1,24 +1,27 @@
--- Fields taken into the map of parameters, and the search for the least difference.
+-- Fields taken into the map of parameters, the entries of a map, and the search for the least difference.
 -- Assumes nothing.
 use mathlib.Core.Path.{◌≡◌, refl, sym, ap, ap₂, ◌∙◌}
 use mathlib.Core.Bool.{Bool, true, false, not, cond, ◌&&◌}
 use mathlib.Core.List.{List, [], ◌∷◌}
 use Prim.Native.Nat.{ℕ, zero, suc, ◌+◌, ◌<◌, ◌≤◌}
 use native.Mathlib.Numerals.{add-one}
-use borrow.Author.Tests.{eq-eqb, ne_eqb}
-use lib.ListN.{length, get_or, drop, drop_of_length-le}
-use lib.Seq.{drop-cons}
-use Rattle.codec.specs.Refusal.{entry_differs}
+use native.Mathlib.Omega.{arith}
+use borrow.Author.Tests.{eq-eqb, ne_eqb, eqb-false}
+use lib.Dec.{eqb}
+use lib.ListN.{length, get_or, drop, drop_of_length-le, length-replicate, get_or-replicate}
+use lib.Seq.{drop-cons, get_or-set_same, get_or-set_other}
+use Rattle.std.specs.Prelude.{Ok, Err, None}
+use Rattle.codec.specs.declared.refusal.Refusal.{Refusal}
 use Rattle.codec.proofs.Laws.Lists.{all-elements}
 use Rattle.voting.specs.Table.{lookup}
 use Rattle.voting.specs.Value.{Value}
 use Rattle.voting.specs.declared.table.Table.{Table}
-use Rattle.extension.specs.declared.section.Parsed.{Parsed}
+use Rattle.extension.specs.declared.section.Section.{Section}
 use Rattle.extension.specs.declared.parameters.ParameterMap.{ParameterMap}
-use Rattle.extension.specs.declared.parameters.Matched.{Matched}
-use Rattle.extension.specs.Section.{section_items}
+use Rattle.voting.proofs.Laws.Tests.{neither}
+use Rattle.extension.specs.Section.{section_items, any}
 use Rattle.extension.specs.Body.{Field, read_field, parameter_key, check_body}
-use Rattle.extension.specs.Parameters.{no_parameters, entry_of, store, number_in, taken, parameters_in, read_parameters, parameters_of, agrees, table_ids, first_differing, matched, check_parameters}
+use Rattle.extension.specs.Parameters.{no_parameters, entry_of, store, number_in, taken, parameters_in, parameters_of, agrees, table_ids, first_differing, matched, check_parameters}
 
 -- one field, by its tests
 module _ (a b : ℕ) (v : List ℕ) (m : ParameterMap) where
@@ -49,10 +52,45 @@ module _ (fs : List Field) (m : ParameterMap) where
   unfolding parameters_in
   parameters-next f rest n e q = rw (e, q)
 
-pub parameters-is : (s : List ℕ) (x : Parsed) → x ≡ check_body s → (m : ParameterMap) → m ≡ parameters_in (section_items (read_field s) x.section) no_parameters
-    → record { refusal = x.refusal; map = m } ≡ parameters_of s
-unfolding parameters_of read_parameters
-parameters-is s x e m q = rw q (ap (read_parameters s) e)
+-- of a body, by what its reader answered
+module _ (s : List ℕ) where
+  pub parameters-refused : (e : Refusal) → Err e ≡ check_body s → Err e ≡ parameters_of s
+  unfolding parameters_of
+  parameters-refused e q = rw (← q)
+
+  pub parameters-is : (x : Section) → Ok x ≡ check_body s → (m : ParameterMap) → m ≡ parameters_in (section_items (read_field s) x) no_parameters
+      → Ok m ≡ parameters_of s
+  unfolding parameters_of
+  parameters-is x e m q = rw (← e) (ap Ok q)
+
+-- an entry that was stored, and any other
+pub store_same : (m : ParameterMap) (id : ℕ) (v : Value) → id < length m.entries → entry_of (store m id v) id ≡ v
+unfolding entry_of
+store_same m id v h = get_or-set_same m.entries id v None h
+
+pub store_other : (m : ParameterMap) (id at : ℕ) (v : Value) → (at ≡ id → ⊥) → entry_of (store m id v) at ≡ entry_of m at
+unfolding entry_of
+store_other m id at v n = get_or-set_other m.entries id at v None n
+
+-- a map without entries
+pub no-entry : (id : ℕ) → id < 256 → entry_of no_parameters id ≡ None
+unfolding entry_of no_parameters
+no-entry id h = rw (get_or-replicate {A = Value} 256 id None None h)
+
+pub no_length : length no_parameters.entries ≡ 256
+unfolding no_parameters
+no_length = length-replicate {A = Value} 256 None
+
+-- no id of the list is 0
+nonzero : (ids : List ℕ) → any (eqb 0) ids ≡ false → (k : ℕ) → k < length ids → get_or ids k 0 ≡ 0 → ⊥
+unfolding any
+nonzero [] e k h q = omega arith
+nonzero (x ∷ ids) e zero h q = eqb-false 0 x (neither (eqb 0 x) (any (eqb 0) ids) e).0 (sym q)
+nonzero (x ∷ ids) e (suc k) h q = nonzero ids (neither (eqb 0 x) (any (eqb 0) ids) e).1 k (omega arith) q
+
+pub table-id : (k : ℕ) → k < 12 → get_or table_ids k 0 ≡ 0 → ⊥
+unfolding any table_ids
+table-id k h = nonzero table_ids refl k h
 
 -- the ids that are left
 module _ (t : Table) (m : ParameterMap) (k : ℕ) where
@@ -81,16 +119,16 @@ module _ (t : Table) (m : ParameterMap) (k : ℕ) where
     differs_next e = rw (here, agrees-is, e)
 
 -- 15, by the id that was found
-pub matched-other : (n : ℕ) → (n ≡ 0 → ⊥) → ◌≡◌ {A = Matched} (record { refusal = entry_differs; id = n }) (matched n)
+pub matched-other : (n : ℕ) → (n ≡ 0 → ⊥) → Err (record { id = n }) ≡ matched n
 unfolding matched
 matched-other zero d = absurd (d refl)
 matched-other (suc n) d = refl
 
 module _ (t : Table) (m : ParameterMap) (id : ℕ) (is-id : id ≡ first_differing t m table_ids) where
-  pub matched-none : id ≡ 0 → record { refusal = 0; id = 0 } ≡ check_parameters t m
+  pub matched-none : id ≡ 0 → Ok tt ≡ check_parameters t m
   unfolding check_parameters matched
   matched-none e = rw (← is-id, e)
 
-  pub matched-some : (id ≡ 0 → ⊥) → record { refusal = entry_differs; id = id } ≡ check_parameters t m
+  pub matched-some : (id ≡ 0 → ⊥) → Err (record { id = id }) ≡ check_parameters t m
   unfolding check_parameters
   matched-some d = rw (← is-id) (matched-other id d)

@@ -1,64 +1,54 @@
 -- Rules and statuses at a position, and the tests of an update in order.
 -- Assumes nothing.
-use mathlib.Core.Path.{◌≡◌, refl, sym, ap, ◌∙◌, subst}
+use mathlib.Core.Path.{◌≡◌, refl, sym, ap, subst}
 use mathlib.Core.Bool.{Bool, true, false, cond, ◌||◌}
-use mathlib.Core.List.{List, [], ◌∷◌}
-use Prim.Native.Nat.{ℕ, ◌+◌, ◌-◌, ◌≤◌, ◌<◌}
+use mathlib.Core.List.{List, []}
+use Prim.Native.Nat.{ℕ, ◌+◌, ◌≤◌, ◌<◌}
 use native.Mathlib.Omega.{arith}
 use borrow.Author.Tests.{lt-ltb, le-ltb, ltb-false, eq-eqb, ne_eqb}
 use lib.Dec.{ltb, eqb}
 use lib.IntN.{ℤ}
 use lib.ListN.{length, get_or}
-use Rattle.codec.specs.Refusal.{update_unreadable, mandatory_disabled, input_long}
+use Rattle.std.specs.Prelude.{Option, Some, None, Result, Ok, Err}
+use Rattle.codec.specs.declared.refusal.Refusal.{Refusal}
+use Rattle.codec.specs.declared.refusal.Refusal.TheVariants.{UpdateUnreadable, MandatoryDisabled, InputLong}
+use Rattle.codec.specs.Check.{and_then}
 use Rattle.codec.specs.Vlq.{vlq_at}
 use Rattle.codec.specs.Rule.{rule_of}
 use Rattle.codec.specs.declared.rule.RuleId.{RuleId}
 use Rattle.codec.specs.declared.vlq.Number.{Number}
-use Rattle.std.specs.Prelude.{Option, Some, None}
+use Rattle.voting.proofs.Laws.Tests.{then_ok}
 use Rattle.extension.specs.declared.section.Section.{Section}
-use Rattle.extension.specs.declared.section.Parsed.{Parsed}
 use Rattle.extension.specs.declared.update.RulePlace.{RulePlace}
-use Rattle.extension.specs.declared.update.RuleAt.TheVariants.{HasRule, NoRule}
 use Rattle.extension.specs.declared.update.StatusPlace.{StatusPlace}
-use Rattle.extension.specs.declared.update.StatusAt.TheVariants.{HasStatus, NoStatus}
-use Rattle.extension.specs.Section.{Reading, got, bad, Listing, done, item, listing, items, section, closed, section_items, refused_section, part, any}
-use Rattle.extension.specs.Mandatory.{mandatory_rule}
-use Rattle.extension.specs.Update.{placed_rule, rule_at, rule_reading, read_rule, Status, placed_status, offset_then, status_at, status_reading, read_status, update_rule, update_status, raw_of, status_raw, count_in, items_from, no_update, refused_update, with_statuses, with_rules, update_of, rules_in, disables, proposed_of}
-use Rattle.extension.proofs.Laws.Section.{listing-stop, listing-item, items-stop, items-item, no_items}
-use Rattle.voting.proofs.Laws.Tests.{by-test}
-use Rattle.extension.specs.declared.update.ParsedUpdate.{ParsedUpdate}
-use Rattle.extension.specs.declared.update.Proposed.{Proposed}
 use Rattle.extension.specs.declared.update.Update.{Update}
+use Rattle.extension.specs.declared.update.Proposed.{Proposed}
 use Rattle.extension.specs.declared.update.Rules.{Rules}
-use Rattle.extension.specs.Rules.{RulesAre}
+use Rattle.extension.specs.Section.{Reading, got, bad, Listing, done, item, listing, items, section, closed, section_items, part, any}
+use Rattle.extension.specs.Mandatory.{mandatory_rule}
+use Rattle.extension.specs.Update.{placed_rule, rule_at, rule_reading, read_rule, Status, placed_status, offset_then, status_at, status_reading, read_status, update_rule, update_status, raw_of, status_raw, count_in, items_from, no_update, with_rules, update_of, rules_in, disables, proposed_of}
+use Rattle.extension.specs.Rules.{surveyed, rules_of}
+use Rattle.extension.proofs.Laws.Section.{no_items}
 
 -- the rule at a position
 module _ (s : List ℕ) (at : ℕ) where
-  pub rule-unreadable : None ≡ vlq_at 16 s at → NoRule update_unreadable ≡ rule_at s at
+  pub rule-unreadable : None ≡ vlq_at 16 s at → Err UpdateUnreadable ≡ rule_at s at
   unfolding rule_at placed_rule
   rule-unreadable e = rw (← e)
 
-  pub rule-here : (m : Number) → Some m ≡ vlq_at 16 s at → HasRule (record { id = m.value; next = m.next }) ≡ rule_at s at
+  pub rule-here : (m : Number) → Some m ≡ vlq_at 16 s at → Ok (record { id = m.value; next = m.next }) ≡ rule_at s at
   unfolding rule_at placed_rule
   rule-here m e = rw (← e)
 
-  pub rule-read : (x : RulePlace) → HasRule x ≡ rule_at s at → read_rule s at ≡ got x.id x.next
+  pub rule-read : (x : RulePlace) → Ok x ≡ rule_at s at → read_rule s at ≡ got x.id x.next
   unfolding read_rule rule_reading
   rule-read x e = rw (← e)
 
-  pub rule-unread : (e : ℕ) → NoRule e ≡ rule_at s at → read_rule s at ≡ bad e
+  pub rule-unread : (e : Refusal) → Err e ≡ rule_at s at → read_rule s at ≡ bad e
   unfolding read_rule rule_reading
   rule-unread e q = rw (← q)
 
-  -- the rules that are left, by the one read here
-  module _ (n : ℕ) (h : 0 < n) where
-    pub rule-listed : (x : RulePlace) → HasRule x ≡ rule_at s at → items (listing (read_rule s) n at) ≡ x.id ∷ items (listing (read_rule s) (n - 1) x.next)
-    rule-listed x e = items-item _ _ _ (listing-item (read_rule s) n at h x.id x.next (rule-read x e))
-
-    pub rule-ends : (e : ℕ) → NoRule e ≡ rule_at s at → items (listing (read_rule s) n at) ≡ []
-    rule-ends e q = items-stop _ _ (listing-stop (read_rule s) n at h e (rule-unread e q))
-
-  pub rule-long : 65536 < length s → NoRule input_long ≡ update_rule s at
+  pub rule-long : 65536 < length s → Err InputLong ≡ update_rule s at
   unfolding update_rule
   rule-long h = rw (lt-ltb _ _ h)
 
@@ -68,17 +58,17 @@ module _ (s : List ℕ) (at : ℕ) where
 
 -- the status at a position, after its offset
 module _ (s : List ℕ) (rule : RuleId) (at : ℕ) where
-  pub size-unreadable : None ≡ vlq_at 16 s at → NoStatus update_unreadable ≡ placed_status s rule.0 (vlq_at 16 s at)
+  pub size-unreadable : None ≡ vlq_at 16 s at → Err UpdateUnreadable ≡ placed_status s rule.0 (vlq_at 16 s at)
   unfolding placed_status
   size-unreadable e = rw (← e)
 
   module _ (m : Number) (e : Some m ≡ vlq_at 16 s at) where
-    pub raw-cut : length s < m.next + 1 + m.value → NoStatus update_unreadable ≡ placed_status s rule.0 (vlq_at 16 s at)
+    pub raw-cut : length s < m.next + 1 + m.value → Err UpdateUnreadable ≡ placed_status s rule.0 (vlq_at 16 s at)
     unfolding placed_status
     raw-cut h = rw (← e, lt-ltb _ _ h)
 
     pub raw-here : m.next + 1 + m.value ≤ length s
-        → HasStatus (record { rule = rule; code = get_or s m.next 0; start = m.next + 1; end = m.next + 1 + m.value }) ≡ placed_status s rule.0 (vlq_at 16 s at)
+        → Ok (record { rule = rule; code = get_or s m.next 0; start = m.next + 1; end = m.next + 1 + m.value }) ≡ placed_status s rule.0 (vlq_at 16 s at)
     unfolding placed_status
     raw-here h = rw (← e, le-ltb _ _ h)
 
@@ -86,7 +76,7 @@ abbrev pub status_in : List ℕ → StatusPlace → Status
 status_in s x = record { rule = x.rule.0; code = x.code; raw = part s x.start x.end }
 
 module _ (s : List ℕ) (at : ℕ) where
-  pub offset-unreadable : None ≡ vlq_at 16 s at → NoStatus update_unreadable ≡ status_at s at
+  pub offset-unreadable : None ≡ vlq_at 16 s at → Err UpdateUnreadable ≡ status_at s at
   unfolding status_at offset_then
   offset-unreadable e = rw (← e)
 
@@ -94,15 +84,15 @@ module _ (s : List ℕ) (at : ℕ) where
   unfolding status_at offset_then
   offset-here m e rule q = rw (← e, q)
 
-  pub status-read : (x : StatusPlace) → HasStatus x ≡ status_at s at → read_status s at ≡ got (status_in s x) x.end
+  pub status-read : (x : StatusPlace) → Ok x ≡ status_at s at → read_status s at ≡ got (status_in s x) x.end
   unfolding read_status status_reading
   status-read x e = rw (← e)
 
-  pub status-unread : (e : ℕ) → NoStatus e ≡ status_at s at → read_status s at ≡ bad e
+  pub status-unread : (e : Refusal) → Err e ≡ status_at s at → read_status s at ≡ bad e
   unfolding read_status status_reading
   status-unread e q = rw (← q)
 
-  pub status-long : 65536 < length s → NoStatus input_long ≡ update_status s at
+  pub status-long : 65536 < length s → Err InputLong ≡ update_status s at
   unfolding update_status
   status-long h = rw (lt-ltb _ _ h)
 
@@ -110,43 +100,43 @@ module _ (s : List ℕ) (at : ℕ) where
   unfolding update_status
   status-short h = rw (le-ltb _ _ h)
 
-  pub raw-is : (x : StatusPlace) → HasStatus x ≡ update_status s at → part s x.start x.end ≡ status_raw s at
+  pub raw-is : (x : StatusPlace) → Ok x ≡ update_status s at → part s x.start x.end ≡ status_raw s at
   unfolding status_raw raw_of
   raw-is x e = rw (← e)
 
-  pub raw-none : (e : ℕ) → NoStatus e ≡ update_status s at → [] ≡ status_raw s at
+  pub raw-none : (e : Refusal) → Err e ≡ update_status s at → [] ≡ status_raw s at
   unfolding status_raw raw_of
   raw-none e q = rw (← q)
 
 -- the raw bytes of a status lie inside
-sized_inside : (s : List ℕ) (rule : ℤ) (r : Option Number) (x : StatusPlace) → HasStatus x ≡ placed_status s rule r → (x.start ≤ x.end) × (x.end ≤ length s)
+sized_inside : (s : List ℕ) (rule : ℤ) (r : Option Number) (x : StatusPlace) → Ok x ≡ placed_status s rule r → (x.start ≤ x.end) × (x.end ≤ length s)
 unfolding placed_status
-sized_inside s rule None x e = absurd (let z : ◌≡◌ {A = ℕ} 0 1 = cc in omega arith)
+sized_inside s rule None x e = cc
 sized_inside s rule (Some m) x e = go (ltb (length s) (m.next + 1 + m.value)) refl e
   where
     go : (p : Bool) → ltb (length s) (m.next + 1 + m.value) ≡ p
-        → HasStatus x ≡ cond p (NoStatus update_unreadable) (HasStatus (record { rule = record { 0 = rule }; code = get_or s m.next 0; start = m.next + 1; end = m.next + 1 + m.value }))
+        → Ok x ≡ cond p (Err UpdateUnreadable) (Ok (record { rule = record { 0 = rule }; code = get_or s m.next 0; start = m.next + 1; end = m.next + 1 + m.value }))
         → (x.start ≤ x.end) × (x.end ≤ length s)
-    go true h q = absurd (let z : ◌≡◌ {A = ℕ} 0 1 = cc in omega arith)
+    go true h q = cc
     go false h q =
         let es : x.start ≡ m.next + 1 = cc in
         let ee : x.end ≡ m.next + 1 + m.value = cc in
         (omega arith, omega (arith, ltb-false (length s) (m.next + 1 + m.value) h))
 
-pub status-inside : (s : List ℕ) (at : ℕ) (x : StatusPlace) → HasStatus x ≡ status_at s at → (x.start ≤ x.end) × (x.end ≤ length s)
+pub status-inside : (s : List ℕ) (at : ℕ) (x : StatusPlace) → Ok x ≡ status_at s at → (x.start ≤ x.end) × (x.end ≤ length s)
 unfolding status_at offset_then
 status-inside s at x e = go (vlq_at 16 s at) e
   where
-    go : (r : Option Number) → HasStatus x ≡ offset_then s r → (x.start ≤ x.end) × (x.end ≤ length s)
-    go None q = absurd (let z : ◌≡◌ {A = ℕ} 0 1 = cc in omega arith)
+    go : (r : Option Number) → Ok x ≡ offset_then s r → (x.start ≤ x.end) × (x.end ≤ length s)
+    go None q = cc
     go (Some m) q = sized_inside s (rule_of m.value) (vlq_at 16 s m.next) x q
 
-pub raw-inside : (s : List ℕ) (at : ℕ) (x : StatusPlace) → HasStatus x ≡ update_status s at → (x.start ≤ x.end) × (x.end ≤ length s)
+pub raw-inside : (s : List ℕ) (at : ℕ) (x : StatusPlace) → Ok x ≡ update_status s at → (x.start ≤ x.end) × (x.end ≤ length s)
 unfolding update_status
 raw-inside s at x e = go (ltb 65536 (length s)) e
   where
-    go : (p : Bool) → HasStatus x ≡ cond p (NoStatus input_long) (status_at s at) → (x.start ≤ x.end) × (x.end ≤ length s)
-    go true q = absurd (let z : ◌≡◌ {A = ℕ} 0 1 = cc in omega arith)
+    go : (p : Bool) → Ok x ≡ cond p (Err InputLong) (status_at s at) → (x.start ≤ x.end) × (x.end ≤ length s)
+    go true q = cc
     go false q = status-inside s at x q
 
 -- a count
@@ -160,52 +150,13 @@ count-large n h = rw (le-ltb _ _ h)
 
 -- a section, by what its count reads
 module _ {A : Type 0} (read : ℕ → Reading A) (r : Option Number) where
-  pub from-unreadable : None ≡ r → refused_section update_unreadable ≡ items_from read r
+  pub from-unreadable : None ≡ r → Err UpdateUnreadable ≡ items_from read r
   unfolding items_from
   from-unreadable e = rw (← e)
 
   pub from-count : (m : Number) → Some m ≡ r → (n : ℕ) → n ≡ count_in m.value → closed n m.next (listing read n m.next) ≡ items_from read r
   unfolding items_from
   from-count m e n q = rw (← e, q)
-
--- the rest of an update, after its statuses or its rules were read
-module _ (rules : Section) (x : Parsed) where
-  pub statuses-stop : (x.refusal ≡ 0 → ⊥) → refused_update x.refusal ≡ with_statuses rules x
-  unfolding with_statuses
-  statuses-stop d = rw (ne_eqb _ _ d)
-
-  pub statuses-pass : x.refusal ≡ 0 → record { refusal = 0; update = record { rules = rules; statuses = x.section } } ≡ with_statuses rules x
-  unfolding with_statuses
-  statuses-pass z = rw (eq-eqb _ _ z)
-
-module _ (s : List ℕ) (x : Parsed) where
-  pub rules-stop : (x.refusal ≡ 0 → ⊥) → refused_update x.refusal ≡ with_rules s x
-  unfolding with_rules
-  rules-stop d = rw (ne_eqb _ _ d)
-
-  module _ (z : x.refusal ≡ 0) (w : Bool) (is-w : w ≡ any mandatory_rule (section_items (read_rule s) x.section)) where
-    pub rules-mandatory : w ≡ true → refused_update mandatory_disabled ≡ with_rules s x
-    unfolding with_rules
-    rules-mandatory t = rw (eq-eqb _ _ z, ← is-w, t)
-
-    pub rules-pass : w ≡ false → (y : Parsed) → y ≡ items_from (read_status s) (vlq_at 32 s x.section.end) → with_statuses x.section y ≡ with_rules s x
-    unfolding with_rules
-    rules-pass t y q = rw (eq-eqb _ _ z, ← is-w, t, q)
-
--- a whole update, by its tests in order
-module _ (s : List ℕ) where
-  pub update-long : 65536 < length s → refused_update input_long ≡ update_of s
-  unfolding update_of
-  update-long h = rw (lt-ltb _ _ h)
-
-  module _ (h : length s ≤ 65536) where
-    pub update-empty : length s ≡ 0 → record { refusal = 0; update = no_update } ≡ update_of s
-    unfolding update_of
-    update-empty e = rw (le-ltb _ _ h, eq-eqb _ _ e)
-
-    pub update-read : (length s ≡ 0 → ⊥) → (x : Parsed) → x ≡ items_from (read_rule s) (vlq_at 32 s 0) → with_rules s x ≡ update_of s
-    unfolding update_of
-    update-read d x q = rw (le-ltb _ _ h, ne_eqb _ _ d, q)
 
 -- ---- the rules in one pass
 
@@ -227,78 +178,111 @@ module _ {A : Type 0} (p : A → Bool) (l : Listing A) where
   unfolding items any
   gather-done at e so_far = rw e (sym (or-false so_far))
 
+-- rules that can't be read, and rules that are
+module _ (s : List ℕ) (rule : ℕ) (x : Result Section Refusal) where
+  pub rules-refused : (e : Refusal) → Err e ≡ x → Err e ≡ rules_of s rule x
+  unfolding rules_of
+  rules-refused e q = rw (← q)
+
+  pub rules-ended : (count begin end : ℕ) → Ok (section count begin end) ≡ x → (m l : Bool)
+      → m ≡ any mandatory_rule (items (listing (read_rule s) count begin)) → l ≡ any (eqb rule) (items (listing (read_rule s) count begin))
+      → Ok (record { section = section count begin end; mandatory = m; listed = l }) ≡ rules_of s rule x
+  unfolding rules_of surveyed section_items
+  rules-ended count begin end q m l is_m is-l = rw (← q, is_m, is-l)
+
+  pub rules-surveyed : (r : Rules) → Ok r ≡ rules_of s rule x → r ≡ surveyed s rule r.section
+  unfolding rules_of surveyed
+  rules-surveyed r q =
+      let t = then_ok x (λ y. Ok (surveyed s rule y)) (sym q) in
+      let e : surveyed s rule t.0 ≡ r = cc in
+      subst (λ (y : Rules). y ≡ surveyed s rule y.section) e refl
+
+-- ---- a whole update
+
+-- what is proposed, by the update, and after the rules were read
+abbrev pub proposed : List ℕ → ℕ → Update → Result Proposed Refusal
+proposed s rule u = Ok (record { update = u; disables = disables s u rule })
+
+module _ (s : List ℕ) (rule : ℕ) (rules : Rules) where
+  abbrev pub proposed_after : Result Proposed Refusal
+  proposed_after = and_then (with_rules s rules.section) (proposed s rule)
+
+  module _ (is : rules ≡ surveyed s rule rules.section) where
+    mandatory-is : rules.mandatory ≡ any mandatory_rule (section_items (read_rule s) rules.section)
+    unfolding surveyed
+    mandatory-is = ap (λ (r : Rules). r.mandatory) is
+
+    pub rules-mandatory : rules.mandatory ≡ true → Err MandatoryDisabled ≡ proposed_after
+    unfolding with_rules
+    rules-mandatory t = rw (← mandatory-is, t)
+
+    module _ (t : rules.mandatory ≡ false) where
+      pub statuses-refused : (e : Refusal) → Err e ≡ items_from (read_status s) (vlq_at 32 s rules.section.end) → Err e ≡ proposed_after
+      unfolding with_rules
+      statuses-refused e q = rw (← mandatory-is, t, ← q)
+
+      pub statuses-here : (x : Section) → Ok x ≡ items_from (read_status s) (vlq_at 32 s rules.section.end)
+          → Ok (record { update = record { rules = rules.section; statuses = x }; disables = rules.listed }) ≡ proposed_after
+      unfolding with_rules disables rules_in surveyed
+      statuses-here x q =
+          let l : rules.listed ≡ any (eqb rule) (section_items (read_rule s) rules.section) = ap (λ (r : Rules). r.listed) is in
+          rw (← mandatory-is, t, ← q, l)
+
 module _ (s : List ℕ) (rule : ℕ) where
   disables-none : false ≡ disables s no_update rule
   unfolding disables rules_in any
   disables-none = sym (ap (any (eqb rule)) (no_items (read_rule s)))
 
-  -- what is proposed, by the parsed update
-  pub refused_none : (u : ParsedUpdate) (e : ℕ) → u ≡ refused_update e → false ≡ disables s u.update rule
-  refused_none u e q = disables-none ∙ ap (λ (v : ParsedUpdate). disables s v.update rule) (sym q)
+  -- by the tests in order
+  pub proposed-long : 65536 < length s → Err InputLong ≡ proposed_of s rule
+  unfolding proposed_of update_of
+  proposed-long h = rw (lt-ltb _ _ h)
 
-  proposed-none : (u : ParsedUpdate) → u.update ≡ no_update → u ≡ update_of s → record { parsed = u; disables = false } ≡ proposed_of s rule
+  module _ (h : length s ≤ 65536) where
+    pub proposed-empty : length s ≡ 0 → (n : Update) → n ≡ no_update → Ok (record { update = n; disables = false }) ≡ proposed_of s rule
+    unfolding proposed_of update_of
+    proposed-empty e n q = rw (le-ltb _ _ h, eq-eqb _ _ e, q, ← disables-none)
+
+    module _ (d : length s ≡ 0 → ⊥) where
+      pub proposed-unread : (e : Refusal) → Err e ≡ rules_of s rule (items_from (read_rule s) (vlq_at 32 s 0)) → Err e ≡ proposed_of s rule
+      unfolding proposed_of update_of rules_of
+      proposed-unread e q = rw (le-ltb _ _ h, ne_eqb _ _ d) (go (items_from (read_rule s) (vlq_at 32 s 0)) q)
+        where
+          go : (x : Result Section Refusal) → Err e ≡ and_then x (λ y. Ok (surveyed s rule y))
+              → Err e ≡ and_then (and_then x (with_rules s)) (proposed s rule)
+          go (Ok y) q = cc
+          go (Err f) q = cc
+
+      pub proposed-read : (r : Rules) → Ok r ≡ rules_of s rule (items_from (read_rule s) (vlq_at 32 s 0)) → proposed_after s rule r ≡ proposed_of s rule
+      unfolding proposed_of update_of rules_of surveyed
+      proposed-read r q =
+          let t = then_ok (items_from (read_rule s) (vlq_at 32 s 0)) (λ y. Ok (surveyed s rule y)) (sym q) in
+          let e : surveyed s rule t.0 ≡ r = cc in
+          rw (le-ltb _ _ h, ne_eqb _ _ d, t.1) (ap (λ (y : Rules). proposed_after s rule y) (sym e))
+
+  -- the update of what is proposed, and the rule
+  pub update-refused : (e : Refusal) → Err e ≡ proposed_of s rule → Err e ≡ update_of s
   unfolding proposed_of
-  proposed-none u n q = rw (← q, n, ← disables-none)
+  update-refused e q = go (update_of s) q
+    where
+      go : (x : Result Update Refusal) → Err e ≡ and_then x (proposed s rule) → Err e ≡ x
+      go (Ok u) q = cc
+      go (Err f) q = let same : e ≡ f = cc in ap Err same
 
-  pub proposed-refused : (u : ParsedUpdate) (e : ℕ) → u ≡ refused_update e → refused_update e ≡ update_of s → record { parsed = u; disables = false } ≡ proposed_of s rule
-  proposed-refused u e is-u q = proposed-none u (ap (λ (v : ParsedUpdate). v.update) is-u) (is-u ∙ q)
+  pub update-read : (p : Proposed) → Ok p ≡ proposed_of s rule → Ok p.update ≡ update_of s
+  unfolding proposed_of
+  update-read p q = go (update_of s) q
+    where
+      go : (x : Result Update Refusal) → Ok p ≡ and_then x (proposed s rule) → Ok p.update ≡ x
+      go (Ok u) q = let e : p ≡ record { update = u; disables = disables s u rule } = cc in ap (λ (y : Proposed). Ok y.update) e
+      go (Err f) q = cc
 
-  pub proposed-empty : (n : Update) → n ≡ no_update → record { refusal = 0; update = no_update } ≡ update_of s → record { parsed = record { refusal = 0; update = n }; disables = false } ≡ proposed_of s rule
-  proposed-empty n is-n q = proposed-none (record { refusal = 0; update = n }) is-n (ap {B = ParsedUpdate} (λ (m : Update). record { refusal = 0; update = m }) is-n ∙ q)
-
-  module _ (p : Proposed) where
-    pub proposed-read : (x : ParsedUpdate) → p.parsed ≡ x → p.disables ≡ disables s p.parsed.update rule → x ≡ update_of s → p ≡ proposed_of s rule
-    unfolding proposed_of
-    proposed-read x is_x d q = let u : p.parsed ≡ update_of s = is_x ∙ q in rw (← u, ← d)
-
-    pub proposed-parsed : p ≡ proposed_of s rule → p.parsed ≡ update_of s
-    unfolding proposed_of
-    proposed-parsed q = ap (λ (r : Proposed). r.parsed) q
-
-    pub proposed-disables : p ≡ proposed_of s rule → p.disables ≡ disables s p.parsed.update rule
-    unfolding proposed_of
-    proposed-disables q = ap (λ (r : Proposed). r.disables) q ∙ ap (λ (u : ParsedUpdate). disables s u.update rule) (sym (proposed-parsed q))
-
-  pub disables-with : (rules : Section) (y : Parsed) (l : Bool) → l ≡ any (eqb rule) (section_items (read_rule s) rules)
-      → cond (eqb y.refusal 0) l false ≡ disables s (with_statuses rules y).update rule
-  unfolding disables rules_in with_statuses
-  disables-with rules y l is-l =
-      by-test (eqb y.refusal 0)
-      (λ t. rw t is-l)
-      (λ t. rw t disables-none)
-
--- rules that can't be read, and rules that are
-module _ (s : List ℕ) (rule : ℕ) (x : Parsed) where
-  pub rules-refused : (e : ℕ) → refused_section e ≡ x → RulesAre s rule x (record { parsed = refused_section e; mandatory = false; listed = false })
-  unfolding any
-  rules-refused e q =
-      let none : section_items (read_rule s) x.section ≡ [] = ap (λ (y : Parsed). section_items (read_rule s) y.section) (sym q) ∙ no_items (read_rule s) in
-      record { parsed = q; mandatory = λ z. sym (ap (any mandatory_rule) none); listed = λ z. sym (ap (any (eqb rule)) none) }
-
-  pub rules-ended : (count begin at : ℕ) (p : Parsed) → p ≡ record { refusal = 0; section = section count begin at } → p ≡ x → (m l : Bool)
-      → m ≡ any mandatory_rule (items (listing (read_rule s) count begin)) → l ≡ any (eqb rule) (items (listing (read_rule s) count begin))
-      → RulesAre s rule x (record { parsed = p; mandatory = m; listed = l })
-  unfolding section_items
-  rules-ended count begin at p is-p q m l is_m is-l =
-      let all : items (listing (read_rule s) count begin) ≡ section_items (read_rule s) x.section = ap (λ (y : Parsed). section_items (read_rule s) y.section) (sym is-p ∙ q) in
-      record { parsed = q; mandatory = λ z. is_m ∙ ap (any mandatory_rule) all; listed = λ z. is-l ∙ ap (any (eqb rule)) all }
-
-  -- the same rules, said of another writing of their section
-  pub rules-moved : (y : Parsed) → x ≡ y → (r : Rules) → RulesAre s rule x r → RulesAre s rule y r
-  rules-moved y e r h = subst (λ (z : Parsed). RulesAre s rule z r) e h
-
--- what is proposed, by the statuses that follow the rules
-module _ (rules : Section) (x : Parsed) (listed : Bool) where
-  abbrev pub proposed_with : Proposed
-  proposed_with = record { parsed = with_statuses rules x; disables = cond (eqb x.refusal 0) listed false }
-
-  pub proposed-cut : (x.refusal ≡ 0 → ⊥) → (u : ParsedUpdate) → u ≡ refused_update x.refusal → record { parsed = u; disables = false } ≡ proposed_with
-  unfolding with_statuses
-  proposed-cut d u q = rw (q, ne_eqb _ _ d)
-
-  pub proposed-whole : x.refusal ≡ 0 → record { parsed = record { refusal = 0; update = record { rules = rules; statuses = x.section } }; disables = listed } ≡ proposed_with
-  unfolding with_statuses
-  proposed-whole z = rw (eq-eqb _ _ z)
-
-  pub with-told : (s : List ℕ) (rule : ℕ) (p : Proposed) → p ≡ proposed_with → listed ≡ any (eqb rule) (section_items (read_rule s) rules) → p.disables ≡ disables s p.parsed.update rule
-  with-told s rule p q l = subst (λ (r : Proposed). r.disables ≡ disables s r.parsed.update rule) (sym q) (disables-with s rule rules x listed l)
+  pub update-disables : (p : Proposed) → Ok p ≡ proposed_of s rule → p.disables ≡ disables s p.update rule
+  unfolding proposed_of
+  update-disables p q = go (update_of s) q
+    where
+      go : (x : Result Update Refusal) → Ok p ≡ and_then x (proposed s rule) → p.disables ≡ disables s p.update rule
+      go (Ok u) q =
+          let e : p ≡ record { update = u; disables = disables s u rule } = cc in
+          subst (λ (y : Proposed). y.disables ≡ disables s y.update rule) (sym e) refl
+      go (Err f) q = cc

@@ -10,7 +10,9 @@ use lib.Dec.{ltb}
 use lib.ListN.{length, drop, set, length-append}
 use lib.Seq.{sets, sets-eq}
 use borrow.Author.Tests.{lt-ltb, le-ltb, ltb-true, ltb-false}
-use Rattle.codec.specs.Refusal.{output_short}
+use Rattle.std.specs.Prelude.{Result, Ok, Err, IfOk}
+use Rattle.codec.specs.declared.refusal.Refusal.{Refusal}
+use Rattle.codec.specs.declared.refusal.Refusal.TheVariants.{OutputShort}
 use Rattle.codec.specs.Decimal.{digits, newline}
 use Rattle.codec.specs.Output.{written}
 use Rattle.codec.specs.Put.{Put}
@@ -267,19 +269,19 @@ goes_on at room h f =
 -- ---- what a call answers
 
 module _ (at : NextVotes) (before : List ℕ) where
-  abbrev Answers : Filled → List ℕ → Type 0
+  abbrev Answers : Result Filled Refusal → List ℕ → Type 0
   Answers r after =
       (r ≡ fill_of at (length before))
       × ((after ≡ written (text_of at (length before)) before)
-      × ((r.wrote ≤ length before) × GoesOn at (length before)))
+      × ((IfOk r (λ filled. filled.wrote ≤ length before)) × GoesOn at (length before)))
 
   -- no line might have room
-  pub too_short : length before < line_most → Answers (record { refusal = output_short; next = at; wrote = 0 }) before
+  pub too_short : length before < line_most → Answers (Err OutputShort) before
   unfolding fill_of
   too_short h =
       let e = text-narrow at (length before) h in (
-        rw (lt-ltb (length before) line_most h, next-narrow at (length before) h, e),
-        (rw e, (omega arith, goes_on at (length before))),
+        rw (lt-ltb (length before) line_most h),
+        (rw e, (tt, goes_on at (length before))),
       )
 
   -- the loop's end
@@ -301,7 +303,7 @@ module _ (at : NextVotes) (before : List ℕ) where
           ∙ ap (λ (l : List ℕ). first_of (left_over (length before) l)) rest₀
           ∙ sym (next-wide at (length before) wide)
 
-      answer-is : record { refusal = 0; next = votes_at n; wrote = wrote } ≡ fill_of at (length before)
+      answer-is : Ok (record { next = votes_at n; wrote = wrote }) ≡ fill_of at (length before)
       unfolding fill_of
       answer-is = rw (le-ltb (length before) line_most wide, next-is, wrote-is)
 
@@ -315,16 +317,16 @@ module _ (at : NextVotes) (before : List ℕ) where
           ∙ sets-eq (text_of at (length before)) before 0 fits
           ∙ ap (λ (k : ℕ). text_of at (length before) ++ drop k before) (zero-add (length (text_of at (length before))))
 
-      answers : (r : Filled) → r ≡ record { refusal = 0; next = votes_at n; wrote = wrote } → Answers r cells
-      answers r t = (t ∙ answer-is, (cells_are, (omega (arith, ap (λ (x : Filled). x.wrote) t, f.inside), goes_on at (length before))))
+      answers : (r : Filled) → r ≡ record { next = votes_at n; wrote = wrote } → Answers (Ok r) cells
+      answers r t = (ap {B = Result Filled Refusal} (λ (x : Filled). Ok x) t ∙ answer-is, (cells_are, (omega (arith, ap (λ (x : Filled). x.wrote) t, f.inside), goes_on at (length before))))
 
-    pub filled-all : total ≤ n → (r : Filled) → r ≡ record { refusal = 0; next = votes_at n; wrote = wrote } → Answers r cells
+    pub filled-all : total ≤ n → (r : Filled) → r ≡ record { next = votes_at n; wrote = wrote } → Answers (Ok r) cells
     unfolding fitting left_over
     filled-all h =
         let e = ended n h in
         answers (ap (fitting (length before - wrote)) e) (ap (left_over (length before - wrote)) e ∙ sym e)
 
-    pub filled-up : length cells - wrote < line_most → (r : Filled) → r ≡ record { refusal = 0; next = votes_at n; wrote = wrote } → Answers r cells
+    pub filled-up : length cells - wrote < line_most → (r : Filled) → r ≡ record { next = votes_at n; wrote = wrote } → Answers (Ok r) cells
     filled-up h =
         let s : length before - wrote < line_most = omega (arith, h, f.long) in
         answers (fits-none (length before - wrote) (legal_from n) s) (left-all (length before - wrote) (legal_from n) s)

@@ -6,7 +6,9 @@ use mathlib.Core.List.{List, [], ◌∷◌, ◌++◌}
 use Prim.Native.Nat.{ℕ, zero, suc, ◌+◌, ◌-◌, ◌/◌, ◌%◌, ◌≤◌, ◌<◌}
 use native.Mathlib.Omega.{arith}
 use lib.Dec.{eqb, ltb, leb}
-use borrow.Author.Tests.{eqb-true, eqb-false, eq-eqb, ne_eqb, lt-ltb, le-ltb, le-leb, lt-leb, leb-true, leb-false}
+use borrow.Author.Tests.{eqb-true, eq-eqb, ne_eqb, lt-ltb, le-ltb, le-leb, lt-leb, leb-true, leb-false}
+use Rattle.std.specs.Prelude.{Ok, Err, is_ok, is_err}
+use Rattle.codec.specs.Check.{Check, passed}
 use Rattle.counting.specs.Count.{count}
 use Rattle.voting.specs.Header.{votes_in, fault_in, check_votes, check_header_votes}
 use Rattle.legal.specs.declared.next.NextVotes.{NextVotes}
@@ -92,31 +94,45 @@ at_least n = kept_from (leb n) n (λ m h. lt-leb n m h) (λ m h. le-leb n m h)
 pub more-than : (n : ℕ) → kept (ltb n) all_legal ≡ legal_from (n + 1)
 more-than n = kept_from (ltb n) (n + 1) (λ m h. le-ltb n m (omega arith)) (λ m h. lt-ltb n m (omega arith))
 
+-- ---- what a check's test says
+
+ok-passed : (r : Check) → is_ok r ≡ true → r ≡ passed
+ok-passed (Ok x) e = refl
+ok-passed (Err n) e = cc
+
+not_ok : (r : Check) → is_ok r ≡ false → r ≡ passed → ⊥
+not_ok (Ok x) e q = cc
+not_ok (Err n) e q = cc
+
+refused_ok : (r : Check) → (r ≡ passed → ⊥) → is_ok r ≡ false
+refused_ok (Ok x) h = absurd (h refl)
+refused_ok (Err n) h = refl
+
+other-test : (r : Check) → not (is_err r) ≡ is_ok r
+other-test (Ok x) = refl
+other-test (Err n) = refl
+
 -- ---- bytes and numbers
 
 bytes-number : (a b c n : ℕ) → b < 256 → c < 256 → n ≡ number a b c → (n / 65536 ≡ a) × (n / 256 % 256 ≡ b) × (n % 256 ≡ c)
 bytes-number a b c n hb hc e = (omega arith, omega arith, omega arith)
 
-legal-is : (a b c n : ℕ) → b < 256 → c < 256 → n ≡ number a b c → legal n ≡ eqb (check_header_votes (a ∷ b ∷ c ∷ [])) 0
+legal-is : (a b c n : ℕ) → b < 256 → c < 256 → n ≡ number a b c → legal n ≡ is_ok (check_header_votes (a ∷ b ∷ c ∷ []))
 unfolding legal bytes_of
 legal-is a b c n hb hc e =
     let f = bytes-number a b c n hb hc e in
     rw (f.0, f.1, f.2)
 
 was-legal : (a b c n : ℕ) → b < 256 → c < 256 → n ≡ number a b c → legal n ≡ true → Legal a b c
-was-legal a b c n hb hc e l = eqb-true (check_header_votes (a ∷ b ∷ c ∷ [])) 0 (sym (legal-is a b c n hb hc e) ∙ l)
+was-legal a b c n hb hc e l = ok-passed (check_header_votes (a ∷ b ∷ c ∷ [])) (sym (legal-is a b c n hb hc e) ∙ l)
 
 was-illegal : (a b c n : ℕ) → b < 256 → c < 256 → n ≡ number a b c → legal n ≡ false → Legal a b c → ⊥
-was-illegal a b c n hb hc e l = eqb-false (check_header_votes (a ∷ b ∷ c ∷ [])) 0 (sym (legal-is a b c n hb hc e) ∙ l)
+was-illegal a b c n hb hc e l = not_ok (check_header_votes (a ∷ b ∷ c ∷ [])) (sym (legal-is a b c n hb hc e) ∙ l)
 
 -- the test of the header check
-pub legal-test : (n : ℕ) (r : Bool) → r ≡ not (eqb (check_header_votes (n / 65536 ∷ n / 256 % 256 ∷ n % 256 ∷ [])) 0) → not r ≡ legal n
+pub legal-test : (n : ℕ) (r : Bool) → r ≡ is_err (check_header_votes (n / 65536 ∷ n / 256 % 256 ∷ n % 256 ∷ [])) → not r ≡ legal n
 unfolding legal bytes_of
-legal-test n r e = ap not e ∙ twice (eqb (check_header_votes (n / 65536 ∷ n / 256 % 256 ∷ n % 256 ∷ [])) 0)
-  where
-    twice : (t : Bool) → not (not t) ≡ t
-    twice true = refl
-    twice false = refl
+legal-test n r e = ap not e ∙ other-test (check_header_votes (n / 65536 ∷ n / 256 % 256 ∷ n % 256 ∷ []))
 
 -- ---- the search: a legal number, or numbers that are skipped
 
@@ -124,8 +140,8 @@ legal-test n r e = ap not e ∙ twice (eqb (check_header_votes (n / 65536 ∷ n 
 fronts : (n m : ℕ) (xs ys zs : List ℕ) → bytes_of m ≡ xs ++ ys → bytes_of n ≡ xs ++ zs → votes_in zs ≡ [] → legal n ≡ false → legal m ≡ false
 unfolding legal
 fronts n m xs ys zs p q e l =
-    ne_eqb (check_header_votes (bytes_of m)) 0
-    (λ h. eqb-false (check_header_votes (bytes_of n)) 0 l (ap check_header_votes q ∙ legal-front xs ys zs e (ap check_header_votes (sym p) ∙ h)))
+    refused_ok (check_header_votes (bytes_of m))
+    (λ h. not_ok (check_header_votes (bytes_of n)) l (ap check_header_votes q ∙ legal-front xs ys zs e (ap check_header_votes (sym p) ∙ h)))
 
 skip_block : (n : ℕ) → n < total → legal n ≡ false → n % 65536 ≡ 0 → (m : ℕ) → n ≤ m → m < n + 65536 → legal m ≡ false
 unfolding bytes_of votes_in

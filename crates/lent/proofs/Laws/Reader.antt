@@ -8,178 +8,172 @@ use native.Mathlib.Omega.{arith}
 use lib.Dec.{eqb}
 use lib.ListN.{length}
 use borrow.Author.Tests.{eqb-true, eqb-false}
-use Rattle.voting.specs.Common.{gate}
-use Rattle.voting.proofs.Laws.Tests.{by-test, gate-stop, gate-pass}
-use Rattle.extension.specs.declared.section.Parsed.{Parsed}
+use Rattle.std.specs.Prelude.{Some, None, Result, Ok, Err}
+use Rattle.std.specs.Result.{result_err}
+use Rattle.codec.specs.declared.refusal.Refusal.{Refusal}
+use Rattle.voting.proofs.Laws.Tests.{by-test}
+use Rattle.extension.specs.declared.section.Section.{Section}
 use Rattle.extension.specs.declared.body.FieldPlace.{FieldPlace}
-use Rattle.extension.specs.declared.body.FieldAt.{FieldAt}
-use Rattle.extension.specs.declared.body.FieldAt.TheVariants.{HasField, NoField}
 use Rattle.extension.specs.Section.{bad, Listing, done, stop, item, listing, items, section_items, closed}
-use Rattle.extension.specs.Body.{Field, read_field, extension_of, fields_of, body_field, field_value}
+use Rattle.extension.specs.Body.{Field, read_field, extension_of, fields_in, fields_of, body_field, field_value}
 use Rattle.extension.proofs.Laws.Section.{listing_none, listing-stop, listing-item, items-done, items-stop, items-item, closed-stop}
 use Rattle.extension.proofs.Laws.Body.{field-read, field-unread, at_here, refused-fields, opened}
 use Rattle.lent.specs.declared.reader.Cursor.{Cursor}
-use Rattle.lent.specs.declared.reader.NextField.{NextField}
-use Rattle.lent.specs.declared.reader.NextField.TheVariants.{Found, Refused, Done}
-use Rattle.lent.specs.Reader.{cursor_of, after_field, next_by, next_of, next_refusal, value_by, value_at, fields_left, field_of, Begins, Reads}
+use Rattle.lent.specs.declared.reader.FieldRead.{FieldRead}
+use Rattle.lent.specs.Reader.{cursor_of, after_field, next_by, next_of, value_by, value_at, fields_left, field_of, Begins, Reads}
 
 -- the body is refused
-module _ (body : List ℕ) (c : Cursor) (d : c.refusal ≡ 0 → ⊥) where
-  pub next-told : Refused c.refusal ≡ next_of body c
+module _ (body : List ℕ) (c : Result Cursor Refusal) (e : Refusal) (q : c ≡ Err e) where
+  pub next-told : Err e ≡ next_of body c
   unfolding next_of
-  next-told = gate-stop Refused c.refusal _ d
+  next-told = rw q
 
   none_left : fields_left body c ≡ []
   unfolding fields_left
-  none_left = sym (gate-stop {A = List Field} (λ (n : ℕ). []) c.refusal _ d)
+  none_left = rw q
 
-  pub reads-told : Reads body c (Refused c.refusal)
+  pub reads-told : Reads body c (Err e)
   unfolding Reads
   reads-told = none_left
 
   pub value-told : [] ≡ value_at body c
   unfolding value_at
-  value-told = gate-stop {A = List ℕ} (λ (n : ℕ). []) c.refusal _ d
-
-pub found-is : (f : FieldPlace) (left : ℕ) → Found (record { place = f; cursor = record { at = f.end; left = left; refusal = 0 } }) ≡ after_field left (HasField f)
-unfolding after_field
-found-is f left = refl
+  value-told = rw q
 
 -- it is not
-module _ (body : List ℕ) (c : Cursor) (whole : c.refusal ≡ 0) where
-  next-whole : next_by body c.at c.left ≡ next_of body c
+module _ (body : List ℕ) (c : Result Cursor Refusal) (x : Cursor) (whole : c ≡ Ok x) where
+  next-whole : next_by body x.at x.left ≡ next_of body c
   unfolding next_of
-  next-whole = gate-pass Refused c.refusal _ whole
+  next-whole = rw whole
 
-  value-whole : value_by body c.at c.left ≡ value_at body c
+  value-whole : value_by body x.at x.left ≡ value_at body c
   unfolding value_at
-  value-whole = gate-pass {A = List ℕ} (λ (n : ℕ). []) c.refusal _ whole
+  value-whole = rw whole
 
-  left-whole : fields_left body c ≡ items (listing (read_field body) c.left c.at)
+  left-whole : fields_left body c ≡ items (listing (read_field body) x.left x.at)
   unfolding fields_left
-  left-whole = sym (gate-pass {A = List Field} (λ (n : ℕ). []) c.refusal _ whole)
+  left-whole = rw whole
 
   -- no field is left
-  module _ (z : c.left ≡ 0) where
-    pub next-done : Done ≡ next_of body c
+  module _ (z : x.left ≡ 0) where
+    pub next-done : Ok None ≡ next_of body c
     unfolding next_by
-    next-done = ap (next_by body c.at) (sym z) ∙ next-whole
+    next-done = ap (next_by body x.at) (sym z) ∙ next-whole
 
-    pub reads-done : Reads body c Done
+    pub reads-done : Reads body c (Ok None)
     unfolding Reads
-    reads-done = left-whole ∙ items-done _ c.at (listing_none (read_field body) c.left c.at (omega arith))
+    reads-done = left-whole ∙ items-done _ x.at (listing_none (read_field body) x.left x.at (omega arith))
 
     pub value-done : [] ≡ value_at body c
     unfolding value_by
-    value-done = ap (value_by body c.at) (sym z) ∙ value-whole
+    value-done = ap (value_by body x.at) (sym z) ∙ value-whole
 
   -- one is left
-  module _ (d : c.left ≡ 0 → ⊥) where
-    next_more : next_of body c ≡ after_field (c.left - 1) (body_field body c.at)
+  module _ (more : 0 < x.left) where
+    next_more : next_of body c ≡ after_field (x.left - 1) (body_field body x.at)
     unfolding next_by
-    next_more = sym next-whole ∙ go c.left d
+    next_more = sym next-whole ∙ go x.left more
       where
-        go : (n : ℕ) → (n ≡ 0 → ⊥) → next_by body c.at n ≡ after_field (n - 1) (body_field body c.at)
-        go zero d = absurd (d refl)
-        go (suc n) d = rw sub-one
+        go : (n : ℕ) → 0 < n → next_by body x.at n ≡ after_field (n - 1) (body_field body x.at)
+        go zero h = absurd (omega arith)
+        go (suc n) h = rw sub-one
 
-    pub value-more : (v : List ℕ) → v ≡ field_value body c.at → v ≡ value_at body c
+    pub value-more : field_value body x.at ≡ value_at body c
     unfolding value_by
-    value-more v e = e ∙ go c.left d ∙ value-whole
+    value-more = go x.left more ∙ value-whole
       where
-        go : (n : ℕ) → (n ≡ 0 → ⊥) → field_value body c.at ≡ value_by body c.at n
-        go zero d = absurd (d refl)
-        go (suc n) d = refl
+        go : (n : ℕ) → 0 < n → field_value body x.at ≡ value_by body x.at n
+        go zero h = absurd (omega arith)
+        go (suc n) h = refl
 
-    module _ (f : FieldPlace) (e : HasField f ≡ body_field body c.at) (r : NextField) (is-r : r ≡ after_field (c.left - 1) (HasField f)) where
-      pub next-found : r ≡ next_of body c
-      next-found = is-r ∙ ap (after_field (c.left - 1)) e ∙ sym next_more
+    -- what is read of a field that is there
+    module _ (f : FieldPlace) (e : Ok f ≡ body_field body x.at) where
+      abbrev read : FieldRead
+      read = record { place = f; cursor = record { at = f.end; left = x.left - 1 } }
 
-      pub reads-found : length body ≤ 65536 → Reads body c r
-      unfolding Reads after_field fields_left gate
-      reads-found h =
-          rw is-r
-          (left-whole
-          ∙ items-item _ _ _
-          (listing-item (read_field body) c.left c.at (omega arith) (field_of body f) f.end (field-read body c.at f (e ∙ sym (at_here body c.at h)))))
-
-    module _ (e : ℕ) (q : NoField e ≡ body_field body c.at) where
-      pub next-refused : Refused e ≡ next_of body c
+      pub next-found : Ok (Some read) ≡ next_of body c
       unfolding after_field
-      next-refused = ap (after_field (c.left - 1)) q ∙ sym next_more
+      next-found = ap (after_field (x.left - 1)) e ∙ sym next_more
 
-      unread : length body ≤ 65536 → read_field body c.at ≡ bad e
-      unread h = field-unread body c.at e (q ∙ sym (at_here body c.at h))
+      pub reads-found : length body ≤ 65536 → Reads body c (Ok (Some read))
+      unfolding Reads fields_left
+      reads-found h =
+          left-whole
+          ∙ items-item _ _ _
+          (listing-item (read_field body) x.left x.at more (field_of body f) f.end (field-read body x.at f (e ∙ sym (at_here body x.at h))))
 
-      pub reads-refused : length body ≤ 65536 → Reads body c (Refused e)
+    module _ (e : Refusal) (q : Err e ≡ body_field body x.at) where
+      pub next-refused : Err e ≡ next_of body c
+      unfolding after_field
+      next-refused = ap (after_field (x.left - 1)) q ∙ sym next_more
+
+      unread : length body ≤ 65536 → read_field body x.at ≡ bad e
+      unread h = field-unread body x.at e (q ∙ sym (at_here body x.at h))
+
+      pub reads-refused : length body ≤ 65536 → Reads body c (Err e)
       unfolding Reads
-      reads-refused h = left-whole ∙ items-stop _ e (listing-stop (read_field body) c.left c.at (omega arith) e (unread h))
+      reads-refused h = left-whole ∙ items-stop _ e (listing-stop (read_field body) x.left x.at more e (unread h))
 
 -- ---- before the first field
 
-pub cursor-is : (body : List ℕ) (x : Parsed) → x ≡ extension_of body → record { at = x.section.begin; left = x.section.count; refusal = x.refusal } ≡ cursor_of body
-unfolding cursor_of
-cursor-is body x is_x = ap (λ (y : Parsed). record { at = y.section.begin; left = y.section.count; refusal = y.refusal }) is_x
-
 -- fields that are counted and read begin where they are read
-closed-counted : (n begin : ℕ) (l : Listing Field) → ((closed n begin l).section.count ≡ 0 → ⊥) → ((closed n begin l).section.count ≡ n) × ((closed n begin l).section.begin ≡ begin)
+closed-counted : (n begin : ℕ) (l : Listing Field) (x : Section) → closed n begin l ≡ Ok x → (x.count ≡ n) × (x.begin ≡ begin)
 unfolding closed
-closed-counted n begin (done end) d = (refl, refl)
-closed-counted n begin (stop e) d = absurd (d refl)
-closed-counted n begin (item f l) d = closed-counted n begin l d
+closed-counted n begin (done end) x q = (cc, cc)
+closed-counted n begin (stop e) x q = cc
+closed-counted n begin (item f l) x q = closed-counted n begin l x q
 
--- a body that is not refused: its first field, if it has one, can be read
-module _ (body : List ℕ) (z : (extension_of body).refusal ≡ 0) (d : (extension_of body).section.count ≡ 0 → ⊥) where
-  first-whole : (e : ℕ) → NoField e ≡ body_field body (extension_of body).section.begin → ⊥
-  first-whole e q =
-      let o = opened body z in
+-- a body that is refused
+module _ (body : List ℕ) (e : Refusal) (is_e : Err e ≡ extension_of body) where
+  pub cursor-refused : Err e ≡ cursor_of body
+  unfolding cursor_of
+  cursor-refused = rw (← is_e)
+
+  pub begins-refused : Begins body (Err e)
+  begins-refused =
+      record {
+        fields = none_left body (Err e) e refl ∙ sym (refused-fields body e is_e);
+        told = ap result_err (sym (next-told body (Err e) e refl)) ∙ ap result_err is_e;
+      }
+
+-- a body that is not: its first field, if it has one, can be read
+module _ (body : List ℕ) (x : Section) (is_x : Ok x ≡ extension_of body) where
+  abbrev first : Cursor
+  first = record { at = x.begin; left = x.count }
+
+  pub cursor-is : Ok first ≡ cursor_of body
+  unfolding cursor_of
+  cursor-is = rw (← is_x)
+
+  first-whole : 0 < x.count → (e : Refusal) → Err e ≡ body_field body x.begin → ⊥
+  first-whole more e q =
+      let o = opened body x (sym is_x) in
       let n = o.number.value in
       let begin = o.number.next in
-      let x = closed n begin (listing (read_field body) n begin) in
-      let is : extension_of body ≡ x = o.is in
-      let some : x.section.count ≡ 0 → ⊥ = λ k. d (ap (λ (y : Parsed). y.section.count) is ∙ k) in
-      let at = closed-counted n begin (listing (read_field body) n begin) some in
-      let here : (extension_of body).section.begin ≡ begin = ap (λ (y : Parsed). y.section.begin) is ∙ at.1 in
-      let cut : read_field body begin ≡ bad e = field-unread body begin e (q ∙ ap (body_field body) here ∙ sym (at_here body begin o.not-long)) in
-      let few : 0 < n = omega (arith, at.0, positive x.section.count some) in
-      some (ap (λ (y : Parsed). y.section.count) (sym (closed-stop n begin (listing (read_field body) n begin) e (listing-stop (read_field body) n begin few e cut))))
+      let l = listing (read_field body) n begin in
+      let is : closed n begin l ≡ Ok x = sym o.is ∙ sym is_x in
+      let at = closed-counted n begin l x is in
+      let cut : read_field body begin ≡ bad e = field-unread body begin e (q ∙ ap (body_field body) at.1 ∙ sym (at_here body begin o.not-long)) in
+      let refused : Err e ≡ closed n begin l = closed-stop n begin l e (listing-stop (read_field body) n begin (omega (arith, at.0)) e cut) in
+      cc
+
+  first-told : result_err (next_of body (Ok first)) ≡ None
+  first-told =
+      by-test (eqb x.count 0)
+      (λ t. ap result_err (sym (next-done body (Ok first) first refl (eqb-true _ 0 t))))
+      (λ t. go (omega (arith, eqb-false x.count 0 t)) (body_field body x.begin) refl)
     where
-      positive : (k : ℕ) → (k ≡ 0 → ⊥) → 0 < k
-      positive zero d = absurd (d refl)
-      positive (suc k) d = omega arith
+      go : 0 < x.count → (f : Result FieldPlace Refusal) → f ≡ body_field body x.begin → result_err (next_of body (Ok first)) ≡ None
+      go more (Ok f) e = ap result_err (sym (next-found body (Ok first) first refl more f e))
+      go more (Err n) e = absurd (first-whole more n e)
 
-first-told : (body : List ℕ) → (extension_of body).refusal ≡ 0 → next_refusal (next_of body (cursor_of body)) ≡ 0
-unfolding cursor_of next_refusal after_field
-first-told body z =
-    by-test (eqb (extension_of body).section.count 0)
-    (λ t. ap next_refusal (sym (next-done body (cursor_of body) z (eqb-true _ 0 t))))
-    (λ t. go (eqb-false _ 0 t) (body_field body (extension_of body).section.begin) refl)
-  where
-    go : ((extension_of body).section.count ≡ 0 → ⊥) → (f : FieldAt) → f ≡ body_field body (extension_of body).section.begin → next_refusal (next_of body (cursor_of body)) ≡ 0
-    go d (HasField f) e = ap next_refusal (sym (next-found body (cursor_of body) z d f e _ refl))
-    go d (NoField n) e = absurd (first-whole body z d n e)
+  fields-listed : items (listing (read_field body) x.count x.begin) ≡ fields_of body
+  unfolding fields_of fields_in section_items
+  fields-listed = rw (← is_x)
 
-fields-listed : (body : List ℕ) → items (listing (read_field body) (extension_of body).section.count (extension_of body).section.begin) ≡ fields_of body
-unfolding fields_of section_items
-fields-listed body = refl
-
-told-number : (n : ℕ) → next_refusal (Refused n) ≡ n
-unfolding next_refusal
-told-number n = refl
-
-pub begins : (body : List ℕ) → Begins body (cursor_of body)
-unfolding cursor_of
-begins body = go (extension_of body).refusal refl
-  where
-    go : (n : ℕ) → (extension_of body).refusal ≡ n → Begins body (cursor_of body)
-    go zero z =
-        record {
-          fields = left-whole body (cursor_of body) z ∙ fields-listed body;
-          told = first-told body z ∙ sym z;
-        }
-    go (suc k) e =
-        let d : (extension_of body).refusal ≡ 0 → ⊥ = λ z. omega (arith, e, z) in
-        record {
-          fields = none_left body (cursor_of body) d ∙ sym (refused-fields body k e);
-          told = ap next_refusal (sym (next-told body (cursor_of body) d)) ∙ told-number (extension_of body).refusal;
-        }
+  pub begins : Begins body (Ok first)
+  begins =
+      record {
+        fields = left-whole body (Ok first) first refl ∙ fields-listed;
+        told = first-told ∙ ap result_err is_x;
+      }

@@ -1,4 +1,4 @@
-use Rattle.std.proofs.Common.{◌≡◌, ◌<◌, ◌∙◌, subst, sym, refl, length, rules}
+use Rattle.std.proofs.Common.{arith, ◌≡◌, ◌-◌, ◌<◌, ◌∙◌, subst, sym, refl, length, rules}
 use Rattle.std.proofs.KnownBytes.{Appends-trans, Consumes-nil, Consumes-trans}
 use Rattle.std.specs.Io.KnownBytes.{Appends, Consumes, IsAtEnd}
 use Rattle.stream.specs.Lines.{head_line}
@@ -6,8 +6,8 @@ use Rattle.replay_io.specs.Replays.{GoesOn, IsEmpty}
 use Rattle.replay_io.proofs.Laws.{still-above, reading-as, ends-finish, ends-fail, ends-cut, ends-over, ends-long, reading-on}
 use Rattle.replay_io.proofs.read_all.Goals as goal
 
-pub loop-turns-init : goal.loop-turns-init
-loop-turns-init g c =
+pub loop-init : goal.loop-init
+loop-init g c =
     let a = c.args in
     let s = g.R.Read.remaining a.source.now in
     let k = g.W.Write.contents a.sink.now in (
@@ -21,7 +21,7 @@ loop-turns-init g c =
 
 pub returns-then-came : goal.returns-then-came
 returns-then-came g c =
-    let l = c.loop-turns in
+    let l = c.loop in
     let a = c.args in
     let m = c.receive-came in
     let r = m.result in
@@ -31,14 +31,14 @@ returns-then-came g c =
     let k = g.W.Write.contents a.sink.now in
     let k1 = g.W.Write.contents l.sink in
     let k2 = g.W.Write.contents c.send_fail-sent.new.sink in
-    ends-fail (Consumes s s1) (GoesOn head_line k k1) a.from a.to l.turns l.state l.cells l.got l.handed l.invariant.0 r.failed r.input r.count m.new.buf m.ensures.booked
+    ends-fail (Consumes s s1) (GoesOn head_line k k1) a.from a.to (18446744073709551615 - l.counter) l.state l.cells l.got l.handed l.invariant.0 r.failed r.input r.count m.new.buf m.ensures.booked
     (Consumes s s2) (GoesOn head_line k k2) (Consumes s1 s2) (Appends k1 k2) (0 < length a.buf.now → IsAtEnd s2) m.ensures.bytes (λ x y. Consumes-trans s s1 s2 x y)
     (λ x y f h. λ before e. Appends-trans before k1 k2 x y (f before e) h)
     c.if-came.true (m.ensures.none c.if-came.true) _ l.invariant.1 c.send_fail-sent.result.failed _ c.send_fail-sent.ensures.booked c.send_fail-sent.ensures.bytes _ c.stopped.ensures
 
 pub returns-then-n-eq0 : goal.returns-then-n-eq0
 returns-then-n-eq0 g c =
-    let l = c.loop-turns in
+    let l = c.loop in
     let a = c.args in
     let m = c.receive-came in
     let r = m.result in
@@ -48,14 +48,14 @@ returns-then-n-eq0 g c =
     let k = g.W.Write.contents a.sink.now in
     let k1 = g.W.Write.contents l.sink in
     let k2 = g.W.Write.contents c.send_finish-sent.new.sink in
-    ends-finish (Consumes s s1) (GoesOn head_line k k1) a.from a.to l.turns l.state l.cells l.got l.handed l.invariant.0 r.failed r.input r.count m.new.buf m.ensures.booked
+    ends-finish (Consumes s s1) (GoesOn head_line k k1) a.from a.to (18446744073709551615 - l.counter) l.state l.cells l.got l.handed l.invariant.0 r.failed r.input r.count m.new.buf m.ensures.booked
     (Consumes s s2) (GoesOn head_line k k2) (Consumes s1 s2) (Appends k1 k2) (0 < length a.buf.now → IsAtEnd s2) m.ensures.bytes (λ x y. Consumes-trans s s1 s2 x y)
     (λ x y f h. λ before e. Appends-trans before k1 k2 x y (f before e) h)
     c.if-came.false c.if-n-eq0.true _ l.invariant.1 c.send_finish-sent.result.failed _ c.send_finish-sent.ensures.booked c.send_finish-sent.ensures.bytes (search rules) _ c.stopped-then-n-eq0.ensures
 
 pub returns-then-passed : goal.returns-then-passed
 returns-then-passed g c =
-    let l = c.loop-turns in
+    let l = c.loop in
     let a = c.args in
     let m = c.receive-came in
     let r = m.result in
@@ -65,14 +65,14 @@ returns-then-passed g c =
     let k = g.W.Write.contents a.sink.now in
     let k1 = g.W.Write.contents l.sink in
     let k2 = g.W.Write.contents c.feed_piece-passed.new.sink in
-    ends-cut (Consumes s s1) (GoesOn head_line k k1) a.from a.to l.turns l.state l.cells l.got l.handed l.invariant.0 r.failed r.input r.count m.new.buf m.ensures.booked
+    ends-cut (Consumes s s1) (GoesOn head_line k k1) a.from a.to (18446744073709551615 - l.counter) l.state l.cells l.got l.handed l.invariant.0 r.failed r.input r.count m.new.buf m.ensures.booked
     (Consumes s s2) (GoesOn head_line k k2) (Consumes s1 s2) (Appends k1 k2) (0 < length a.buf.now → IsAtEnd s2) m.ensures.bytes (λ x y. Consumes-trans s s1 s2 x y)
     (λ x y f h. λ before e. Appends-trans before k1 k2 x y (f before e) h)
     c.if-came.false c.if-n-eq0.false c.feed_piece-passed.result.at c.feed_piece-passed.result.run c.feed_piece-passed.new.cells c.feed_piece-passed.result.failed c.feed_piece-passed.result.output c.feed_piece-passed.ensures.0 c.if-passed.true _ c.stopped-then-passed.ensures
 
 pub returns-then-state : goal.returns-then-state
 returns-then-state g c =
-    let l = c.loop-turns in
+    let l = c.loop in
     let a = c.args in
     let m = c.receive-came in
     let r = m.result in
@@ -82,14 +82,14 @@ returns-then-state g c =
     let k = g.W.Write.contents a.sink.now in
     let k1 = g.W.Write.contents l.sink in
     let k2 = g.W.Write.contents c.feed_piece-passed.new.sink in
-    ends-over (Consumes s s1) (GoesOn head_line k k1) a.from a.to l.turns l.state l.cells l.got l.handed l.invariant.0 r.failed r.input r.count m.new.buf m.ensures.booked
+    ends-over (Consumes s s1) (GoesOn head_line k k1) a.from a.to (18446744073709551615 - l.counter) l.state l.cells l.got l.handed l.invariant.0 r.failed r.input r.count m.new.buf m.ensures.booked
     (Consumes s s2) (GoesOn head_line k k2) (Consumes s1 s2) (Appends k1 k2) (0 < length a.buf.now → IsAtEnd s2) m.ensures.bytes (λ x y. Consumes-trans s s1 s2 x y)
     (λ x y f h. λ before e. Appends-trans before k1 k2 x y (f before e) h)
     c.if-came.false c.if-n-eq0.false c.feed_piece-passed.result.at c.feed_piece-passed.result.run c.feed_piece-passed.new.cells c.feed_piece-passed.result.failed c.feed_piece-passed.result.output c.feed_piece-passed.ensures.0 c.if-passed.false c.if-state.true _ c.stopped-then-state.ensures
 
-pub loop-turns-preserved : goal.loop-turns-preserved
-loop-turns-preserved g c =
-    let l = c.loop-turns in
+pub loop-preserved : goal.loop-preserved
+loop-preserved g c =
+    let l = c.loop in
     let a = c.args in
     let m = c.receive-came in
     let r = m.result in
@@ -101,10 +101,10 @@ loop-turns-preserved g c =
     let k2 = g.W.Write.contents c.feed_piece-passed.new.sink in
     let f = c.feed_piece-passed in
     let i = l.invariant in (
-      reading-on (Consumes s s1) (GoesOn head_line k k1) a.from a.to l.turns l.state l.cells l.got l.handed l.invariant.0 r.failed r.input r.count m.new.buf m.ensures.booked
+      reading-on (Consumes s s1) (GoesOn head_line k k1) a.from a.to (18446744073709551615 - l.counter) l.state l.cells l.got l.handed l.invariant.0 r.failed r.input r.count m.new.buf m.ensures.booked
           (Consumes s s2) (GoesOn head_line k k2) (Consumes s1 s2) (Appends k1 k2) (0 < length a.buf.now → IsAtEnd s2) m.ensures.bytes (λ x y. Consumes-trans s s1 s2 x y)
           (λ x y f h. λ before e. Appends-trans before k1 k2 x y (f before e) h)
-          c.if-came.false c.if-n-eq0.false c.feed_piece-passed.result.at c.feed_piece-passed.result.run c.feed_piece-passed.new.cells c.feed_piece-passed.result.failed c.feed_piece-passed.result.output c.feed_piece-passed.ensures.0 c.if-passed.false (f.ensures.1 c.if-passed.false) c.if-state.false c.loop-turns-test.true m.ensures.within,
+          c.if-came.false c.if-n-eq0.false c.feed_piece-passed.result.at c.feed_piece-passed.result.run c.feed_piece-passed.new.cells c.feed_piece-passed.result.failed c.feed_piece-passed.result.output c.feed_piece-passed.ensures.0 c.if-passed.false (f.ensures.1 c.if-passed.false) c.if-state.false (omega (arith, c.loop-test.true)) m.ensures.within _ (omega arith),
       still-above _ _ _ f.auto.out i.1,
       f.auto.cells ∙ i.2,
       m.auto.buf ∙ i.3,
@@ -113,10 +113,10 @@ loop-turns-preserved g c =
 
 pub returns : goal.returns
 returns g c =
-    let l = c.loop-turns in
+    let l = c.loop in
     let a = c.args in
     let s = g.R.Read.remaining a.source.now in
     let s1 = g.R.Read.remaining l.source in
     let k = g.W.Write.contents a.sink.now in
     let k1 = g.W.Write.contents l.sink in
-    ends-long (Consumes s s1) (GoesOn head_line k k1) a.from a.to l.turns l.state l.cells l.got l.handed l.invariant.0 (0 < length a.buf.now → IsAtEnd s1) c.loop-turns-test.false _ c.stopped-2.ensures
+    ends-long (Consumes s s1) (GoesOn head_line k k1) a.from a.to (18446744073709551615 - l.counter) l.state l.cells l.got l.handed l.invariant.0 (0 < length a.buf.now → IsAtEnd s1) (omega (arith, c.loop-test.false)) _ c.stopped-2.ensures

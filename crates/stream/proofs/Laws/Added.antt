@@ -1,8 +1,7 @@
 -- A line in the rest of a buffer, behind what stands there.
 -- Assumes nothing.
-use Rattle.std.proofs.Common.{◌≡◌, ℕ, ◌+◌, ◌-◌, ◌≤◌, List, ◌++◌, length, take, drop, sym, refl, ap, ◌∙◌, append_assoc, append-nil, arith, length-append, length-drop, drop_of_length-le, length-take-le, take_all, drop-drop, take_at, drop_at, le-leb}
-use Rattle.codec.specs.declared.output.Wrote.{Wrote}
-use Rattle.codec.specs.declared.output.Wrote.TheVariants.{Bytes, Refused}
+use Rattle.std.proofs.Common.{Result, Ok, Err, ◌≡◌, ℕ, ◌+◌, ◌-◌, ◌≤◌, List, ◌++◌, length, take, drop, sym, refl, ap, ◌∙◌, append_assoc, append-nil, arith, length-append, length-drop, drop_of_length-le, length-take-le, take_all, drop-drop, take_at, drop_at, le-leb}
+use Rattle.codec.specs.declared.refusal.Refusal.{Refusal}
 use Rattle.codec.specs.Output.{Outcome, wrote, refused, outcome, writes}
 use Rattle.stream.specs.Lines.{line_most}
 use Rattle.stream.specs.Added.{Added}
@@ -20,20 +19,20 @@ stopped (wrote n cells) = 0
 stopped (refused e cells) = 1
 
 -- a text that fits is written
-module _ (text cells : List ℕ) (h : length text ≤ length cells) (w : Wrote) (cells' : List ℕ) (q : outcome w cells' ≡ writes text cells) where
+module _ (text cells : List ℕ) (h : length text ≤ length cells) (w : Result ℕ Refusal) (cells' : List ℕ) (q : outcome w cells' ≡ writes text cells) where
   fits : writes text cells ≡ wrote (length text) (text ++ drop (length text) cells)
   unfolding writes
   fits = rw (le-leb (length text) (length cells) h)
 
-  pub never : (e : ℕ) → w ≡ Refused e → ⊥
-  never e r = let z : ◌≡◌ {A = ℕ} 1 0 = ap (λ (x : Wrote). stopped (outcome x cells')) (sym r) ∙ ap stopped (q ∙ fits) in omega (arith, z)
+  pub never : (e : Refusal) → w ≡ Err e → ⊥
+  never e r = let z : ◌≡◌ {A = ℕ} 1 0 = ap (λ (x : Result ℕ Refusal). stopped (outcome x cells')) (sym r) ∙ ap stopped (q ∙ fits) in omega (arith, z)
 
-  module _ (n : ℕ) (r : w ≡ Bytes n) where
+  module _ (n : ℕ) (r : w ≡ Ok n) where
     pub written_is : n ≡ length text
-    written_is = ap (λ (x : Wrote). count (outcome x cells')) (sym r) ∙ ap count (q ∙ fits)
+    written_is = ap (λ (x : Result ℕ Refusal). count (outcome x cells')) (sym r) ∙ ap count (q ∙ fits)
 
     pub after_is : cells' ≡ text ++ drop (length text) cells
-    after_is = ap (λ (x : Wrote). after (outcome x cells')) (sym r) ∙ ap after (q ∙ fits)
+    after_is = ap (λ (x : Result ℕ Refusal). after (outcome x cells')) (sym r) ∙ ap after (q ∙ fits)
 
     pub front-is : take n cells' ≡ text
     front-is = ap (λ (k : ℕ). take k cells') written_is ∙ ap (take (length text)) after_is ∙ take_at text (drop (length text) cells) (length text) refl
@@ -48,11 +47,11 @@ module _ (out : List ℕ) (at : ℕ) (h : at + line_most ≤ length out) (text :
   room : length text ≤ length part
   room = omega (arith, h, short, ap length part-is, length-drop at out)
 
-  module _ (w : Wrote) (cells' : List ℕ) (q : outcome w cells' ≡ writes text part) where
-    pub added-never : (e : ℕ) → w ≡ Refused e → ⊥
+  module _ (w : Result ℕ Refusal) (cells' : List ℕ) (q : outcome w cells' ≡ writes text part) where
+    pub added-never : (e : Refusal) → w ≡ Err e → ⊥
     added-never = never text part room w cells' q
 
-    module _ (n : ℕ) (r : w ≡ Bytes n) where
+    module _ (n : ℕ) (r : w ≡ Ok n) where
       pub added-most : n ≤ line_most
       added-most = omega (arith, short, written_is text part room w cells' q n r)
 

@@ -1,13 +1,12 @@
 -- A run as it begins, and every way of handing an input to the calls. Assumes nothing.
-use Rattle.std.proofs.Common.{◌≡◌, ℕ, zero, suc, ◌+◌, ◌≤◌, List, [], ◌∷◌, ◌++◌, length, drop, sym, refl, ap, ◌∙◌, subst, arith, length-drop}
+use Rattle.std.proofs.Common.{Result, Ok, ◌≡◌, ℕ, zero, suc, ◌+◌, ◌≤◌, List, [], ◌∷◌, ◌++◌, length, drop, sym, refl, ap, ◌∙◌, subst, arith, length-drop}
 use Rattle.voting.specs.declared.settings.Network.TheVariants.{Mainnet}
-use Rattle.voting.specs.declared.settings.VotingConfig.{VotingConfig}
 use Rattle.voting.specs.declared.table.Table.{Table}
 use Rattle.voting.specs.Settings.{voting_length, mainnet}
 use Rattle.voting.specs.Table.{default_parameters}
 use Rattle.archive.specs.declared.replay.Replay.{Replay}
-use Rattle.archive.specs.declared.replay.Opened.{Opened}
-use Rattle.archive.specs.Replay.{opening_refusal, opened, open_of}
+use Rattle.codec.specs.declared.refusal.Refusal.{Refusal}
+use Rattle.archive.specs.Replay.{may_open, open_of}
 use Rattle.stream.specs.declared.run.Run.{Run}
 use Rattle.stream.specs.Lines.{head_line, line_most}
 use Rattle.stream.specs.Stream.{printed, joined, of-short}
@@ -67,34 +66,30 @@ module _ (s : Replay) (some : 1 ≤ voting_length s.settings) where
       }
 
 -- the opening of program `replay`
-opened-settings : (n height : ℕ) (t : Table) → (opened n height t).state.settings ≡ mainnet
-unfolding opened
-opened-settings zero height t = refl
-opened-settings (suc n) height t = refl
-
-start-settings : mainnet_start.settings ≡ mainnet
-unfolding mainnet_start open_of
-start-settings = opened-settings (opening_refusal (voting_length mainnet)) (voting_length mainnet) (default_parameters Mainnet)
+opens-so : open_of (voting_length mainnet) (default_parameters Mainnet) ≡ Ok mainnet_start
+unfolding open_of may_open mainnet mainnet_start
+opens-so = refl
 
 mainnet-some : 1 ≤ voting_length mainnet
 unfolding mainnet
 mainnet-some = omega arith
 
 start-begins : Begins replay_prints (longest_record mainnet) (begun mainnet_start)
-unfolding replay_prints
-start-begins =
-    subst (λ (g : VotingConfig). Begins (prints mainnet_start) (longest_record g) (begun mainnet_start)) start-settings
-    (begins mainnet_start (subst (λ (g : VotingConfig). 1 ≤ voting_length g) (sym start-settings) mainnet-some))
+unfolding replay_prints mainnet_start
+start-begins = begins mainnet_start mainnet-some
 
-pub begins-mainnet : (t : Table) → t ≡ default_parameters Mainnet → (h : ℕ) → h ≡ voting_length mainnet → (o : Opened) → o ≡ open_of h t → (r : Run) → r ≡ begun o.state
-    → (r ≡ begun mainnet_start) × Begins replay_prints (longest_record mainnet) r
-begins-mainnet t a h e o b r c =
-    let q : r ≡ begun mainnet_start =
-    c ∙ ap (λ (x : Opened). begun x.state) b ∙ ap (λ (x : Table). begun (open_of h x).state) a ∙ ap (λ (x : ℕ). begun (open_of x (default_parameters Mainnet)).state) e ∙ start_is in
-    (q, subst (Begins replay_prints (longest_record mainnet)) (sym q) start-begins)
-  where
-    start_is : begun (open_of (voting_length mainnet) (default_parameters Mainnet)).state ≡ begun mainnet_start
-    start_is = unfold mainnet_start in refl
+module _ (t : Table) (is-t : t ≡ default_parameters Mainnet) (h : ℕ) (is-h : h ≡ voting_length mainnet) (o : Result Replay Refusal) (is-o : o ≡ open_of h t) where
+  pub mainnet-opens : o ≡ Ok mainnet_start
+  mainnet-opens = is-o ∙ ap (open_of h) is-t ∙ ap (λ (x : ℕ). open_of x (default_parameters Mainnet)) is-h ∙ opens-so
+
+  pub begins-mainnet : (s : Replay) → o ≡ Ok s → (r : Run) → r ≡ begun s → (r ≡ begun mainnet_start) × Begins replay_prints (longest_record mainnet) r
+  begins-mainnet s e r c =
+      let same : s ≡ mainnet_start = ok-is (sym e ∙ mainnet-opens) in
+      let q : r ≡ begun mainnet_start = c ∙ ap begun same in
+      (q, subst (Begins replay_prints (longest_record mainnet)) (sym q) start-begins)
+    where
+      ok-is : {s t : Replay} → ◌≡◌ {A = Result Replay Refusal} (Ok s) (Ok t) → s ≡ t
+      ok-is p = cc
 
 pub length-is : 1024 ≡ voting_length mainnet
 unfolding mainnet

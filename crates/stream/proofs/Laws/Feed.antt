@@ -1,9 +1,12 @@
 -- The calls of a run, by the ways through their code; and what they mean.
 -- Assumes nothing.
-use Rattle.std.proofs.Common.{◌≡◌, ℕ, zero, suc, ◌+◌, ◌-◌, ◌<◌, ◌≤◌, Bool, true, false, cond, ◌||◌, eqb, ltb, List, [], ◌++◌, length, take, drop, sym, refl, ap, ◌∙◌, subst, true≢false, append_assoc, append-nil, sub-one, arith, length-append, length-drop, take-append-drop, length-take-le, take_all, drop-drop, ltb-false, ltb-true, le-ltb, eq-eqb, ne_eqb, eqb-true}
+use Rattle.std.proofs.Common.{Result, Ok, Err, IfOk, ◌≡◌, ℕ, zero, suc, ◌+◌, ◌-◌, ◌<◌, ◌≤◌, Bool, true, false, cond, ◌||◌, eqb, ltb, List, [], ◌++◌, length, take, drop, sym, refl, ap, ◌∙◌, subst, true≢false, append_assoc, append-nil, sub-one, arith, length-append, length-drop, take-append-drop, length-take-le, take_all, drop-drop, ltb-false, ltb-true, le-ltb, eq-eqb, ne_eqb, eqb-true}
 use borrow.Author.Tests.{eqb-false}
 use Rattle.codec.specs.Output.{written}
-use Rattle.codec.specs.Refusal.{output_short, record_malformed}
+use Rattle.codec.specs.declared.refusal.Refusal.{Refusal}
+use Rattle.codec.specs.declared.refusal.Refusal.TheVariants.{OutputShort, RecordMalformed}
+use Rattle.codec.specs.Refusal.{number}
+use Rattle.codec.specs.Check.{Check, passed, and_then}
 use Rattle.voting.specs.declared.settings.VotingConfig.{VotingConfig}
 use Rattle.stream.specs.declared.run.Run.{Run}
 use Rattle.stream.specs.declared.run.Took.{Took}
@@ -45,7 +48,7 @@ ready-enough r cells room y h = rw (le-ltb room line_most h, le-ltb (length cell
 
 -- ---- what the turns of the loop mean
 
-none-fed : (room : ℕ) (r : Run) (cells piece : List ℕ) → Ready r cells → (line_most ≤ room → 0 < length piece → ⊥) → (0 < length piece → room < line_most) → Feeds r cells piece room (stands 0 r cells)
+none-fed : (room : ℕ) (r : Run) (cells piece : List ℕ) → Ready r cells → (line_most ≤ room → 0 < length piece → ⊥) → (0 < length piece → room < line_most) → Feeds r cells piece room (stands passed r cells)
 none-fed room r cells piece y none full =
     record {
       passes = refl;
@@ -104,7 +107,7 @@ Turns k = (room : ℕ) (r : Run) (cells piece : List ℕ) → Ready r cells → 
 turn : (k : ℕ) → Turns k → (room : ℕ) (r : Run) (cells piece : List ℕ) → Ready r cells → length piece ≤ suc k
     → (a : Bool) → eqb (length piece) 0 ≡ a → (b : Bool) → ltb room line_most ≡ b
     → Feeds r cells piece room
-    (cond (a || b) (stands 0 r cells)
+    (cond (a || b) (stands passed r cells)
     (behind (took_of r cells piece).used (text_of (took_of r cells piece).print)
     (feed_by k (room - length (text_of (took_of r cells piece).print)) (took_of r cells piece).run (took_cells r cells piece) (drop (took_of r cells piece).used piece))))
 turn k again room r cells piece y h true p b q =
@@ -141,27 +144,27 @@ feeds room r cells piece y h =
 
 behind-none : (a : After) → behind 0 [] a ≡ a
 unfolding behind
-behind-none a = let z : 0 + a.used ≡ a.used = omega arith in ap (λ (n : ℕ). record { refusal = a.refusal; run = a.run; cells = a.cells; used = n; text = a.text }) z
+behind-none a = let z : 0 + a.used ≡ a.used = omega arith in ap (λ (n : ℕ). record { check = a.check; run = a.run; cells = a.cells; used = n; text = a.text }) z
 
-behind-stands : (at n : ℕ) (text : List ℕ) (r : Run) (cells : List ℕ) → behind at text (stands n r cells) ≡ record { refusal = n; run = r; cells = cells; used = at; text = text }
+behind-stands : (at : ℕ) (c : Check) (text : List ℕ) (r : Run) (cells : List ℕ) → behind at text (stands c r cells) ≡ record { check = c; run = r; cells = cells; used = at; text = text }
 unfolding behind
-behind-stands at n text r cells =
+behind-stands at c text r cells =
     let z : at + 0 ≡ at = omega arith in
-    ap (λ (k : ℕ). record { refusal = n; run = r; cells = cells; used = k; text = text ++ [] }) z
-    ∙ ap (λ (t : List ℕ). record { refusal = n; run = r; cells = cells; used = at; text = t }) (append-nil text)
+    ap (λ (k : ℕ). record { check = c; run = r; cells = cells; used = k; text = text ++ [] }) z
+    ∙ ap (λ (t : List ℕ). record { check = c; run = r; cells = cells; used = at; text = t }) (append-nil text)
 
 behind-behind : (at u : ℕ) (w t : List ℕ) (a : After) → behind at w (behind u t a) ≡ behind (at + u) (w ++ t) a
 unfolding behind
 behind-behind at u w t a =
     let z : at + (u + a.used) ≡ at + u + a.used = omega arith in
-    ap (λ (n : ℕ). record { refusal = a.refusal; run = a.run; cells = a.cells; used = n; text = w ++ (t ++ a.text) }) z
-    ∙ ap (λ (x : List ℕ). record { refusal = a.refusal; run = a.run; cells = a.cells; used = at + u + a.used; text = x }) (sym (append_assoc w t a.text))
+    ap (λ (n : ℕ). record { check = a.check; run = a.run; cells = a.cells; used = n; text = w ++ (t ++ a.text) }) z
+    ∙ ap (λ (x : List ℕ). record { check = a.check; run = a.run; cells = a.cells; used = at + u + a.used; text = x }) (sym (append_assoc w t a.text))
 
 module _ (turns room : ℕ) (r : Run) (cells p : List ℕ) where
-  turns-none : turns ≤ 0 → feed_by turns room r cells p ≡ stands 0 r cells
+  turns-none : turns ≤ 0 → feed_by turns room r cells p ≡ stands passed r cells
   turns-none h = go turns h
     where
-      go : (k : ℕ) → k ≤ 0 → feed_by k room r cells p ≡ stands 0 r cells
+      go : (k : ℕ) → k ≤ 0 → feed_by k room r cells p ≡ stands passed r cells
       go zero h = unfold feed_by in refl
       go (suc k) h = absurd (omega arith)
 
@@ -171,14 +174,14 @@ module _ (turns room : ℕ) (r : Run) (cells p : List ℕ) where
       (feed_by k (room - length (text_of (took_of r cells p).print)) (took_of r cells p).run (took_cells r cells p) (drop (took_of r cells p).used p))
 
   module _ (some : 0 < turns) where
-    turn_is : feed_by turns room r cells p ≡ cond (eqb (length p) 0 || ltb room line_most) (stands 0 r cells) (turned (turns - 1))
+    turn_is : feed_by turns room r cells p ≡ cond (eqb (length p) 0 || ltb room line_most) (stands passed r cells) (turned (turns - 1))
     turn_is = go turns some
       where
-        go : (k : ℕ) → 0 < k → feed_by k room r cells p ≡ cond (eqb (length p) 0 || ltb room line_most) (stands 0 r cells) (turned (k - 1))
+        go : (k : ℕ) → 0 < k → feed_by k room r cells p ≡ cond (eqb (length p) 0 || ltb room line_most) (stands passed r cells) (turned (k - 1))
         go zero h = absurd (omega arith)
         go (suc k) h = unfold feed_by in (rw sub-one)
 
-    turn-stops : (eqb (length p) 0 || ltb room line_most) ≡ true → feed_by turns room r cells p ≡ stands 0 r cells
+    turn-stops : (eqb (length p) 0 || ltb room line_most) ≡ true → feed_by turns room r cells p ≡ stands passed r cells
     turn-stops e = turn_is ∙ sym (cond_yes (eqb (length p) 0 || ltb room line_most) _ _ e)
 
     turn-takes : (eqb (length p) 0 || ltb room line_most) ≡ false → feed_by turns room r cells p ≡ turned (turns - 1)
@@ -190,31 +193,39 @@ module _ (r₀ : Run) (cells₀ piece out₀ : List ℕ) where
   abbrev pub fed-whole : After
   fed-whole = feed_of r₀ cells₀ piece (length out₀)
 
-  abbrev pub Post : Fed → List ℕ → List ℕ → Type 0
+  -- no more is taken and written than there is room for
+  abbrev Inside : Result Fed Refusal → Type 0
+  Inside f = IfOk f (λ fed. (fed.used ≤ length piece) × (fed.wrote ≤ length out₀))
+
+  abbrev pub Post : Result Fed Refusal → List ℕ → List ℕ → Type 0
   Post f cells out =
       (f ≡ fed_of fed-whole)
       × ((cells ≡ fed-whole.cells)
       × ((out ≡ written fed-whole.text out₀)
       × ((Ready r₀ cells₀ → line_most ≤ length out₀ → Feeds r₀ cells₀ piece (length out₀) fed-whole)
-      × ((f.used ≤ length piece) × (f.wrote ≤ length out₀)))))
+      × Inside f)))
 
   closed : (a : After) → a ≡ fed-whole → a.used ≤ length piece → length a.text ≤ length out₀
-      → (f : Fed) → f ≡ fed_of a → (cells : List ℕ) → cells ≡ a.cells → (out : List ℕ) → out ≡ written a.text out₀ → Post f cells out
+      → (f : Result Fed Refusal) → f ≡ fed_of a → (cells : List ℕ) → cells ≡ a.cells → (out : List ℕ) → out ≡ written a.text out₀ → Post f cells out
   closed a q i j f is_f cells is-cells out is-out = (
     is_f ∙ ap fed_of q,
     (
       is-cells ∙ ap (λ (x : After). x.cells) q,
       (
         is-out ∙ ap (λ (x : After). written x.text out₀) q,
-        (feeds (length out₀) r₀ cells₀ piece, (omega (arith, i, ap (λ (x : Fed). x.used) is_f), omega (arith, j, ap (λ (x : Fed). x.wrote) is_f))),
+        (feeds (length out₀) r₀ cells₀ piece, subst Inside (sym is_f) (go a.check)),
       ),
     ),
   )
+    where
+      go : (k : Check) → Inside (and_then k (λ _. Ok (record { run = a.run; used = a.used; wrote = length a.text })))
+      go (Ok x) = (i, j)
+      go (Err e) = tt
 
-  pub too_short_lem : (b : Bool) → b ≡ too_short r₀ (length cells₀) (length out₀) → b ≡ true → (f : Fed) → f ≡ record { refusal = output_short; run = r₀; used = 0; wrote = 0 } → Post f cells₀ out₀
+  pub too_short_lem : (b : Bool) → b ≡ too_short r₀ (length cells₀) (length out₀) → b ≡ true → Post (Err OutputShort) cells₀ out₀
   unfolding feed_of
-  too_short_lem b q e f is_f =
-      closed (stands output_short r₀ cells₀) (cond_yes (too_short r₀ (length cells₀) (length out₀)) _ _ (sym q ∙ e)) (omega arith) (omega arith) f is_f cells₀ refl out₀ refl
+  too_short_lem b q e =
+      closed (stands (Err OutputShort) r₀ cells₀) (cond_yes (too_short r₀ (length cells₀) (length out₀)) _ _ (sym q ∙ e)) (omega arith) (omega arith) _ refl cells₀ refl out₀ refl
 
   -- before a turn: what is left to do, behind what was done, is the whole
   pub record Going (turns at wrote : ℕ) (r : Run) (cells out : List ℕ) : Type 0 where
@@ -227,11 +238,12 @@ module _ (r₀ : Run) (cells₀ piece out₀ : List ℕ) where
     pub longest : longest_record r.replay.settings ≤ length cells
     pub is : behind at (take wrote out) (feed_by turns (length out - wrote) r cells (drop at piece)) ≡ fed-whole
 
-  pub begins : (b : Bool) → b ≡ too_short r₀ (length cells₀) (length out₀) → b ≡ false → Going (length piece) 0 0 r₀ cells₀ out₀
+  pub begins : (b : Bool) → b ≡ too_short r₀ (length cells₀) (length out₀) → b ≡ false → Going (length piece - 0) 0 0 r₀ cells₀ out₀
   unfolding feed_of
   begins b q e =
       let n = enough r₀ (length cells₀) (length out₀) b q e in
       let z : length out₀ - 0 ≡ length out₀ = omega arith in
+      let y : length piece - 0 ≡ length piece = omega arith in
       record {
         long = refl;
         cells-long = refl;
@@ -240,30 +252,31 @@ module _ (r₀ : Run) (cells₀ piece out₀ : List ℕ) where
         rest = refl;
         filled = n.filled;
         longest = n.longest;
-        is = behind-none (feed_by (length piece) (length out₀ - 0) r₀ cells₀ piece)
+        is = behind-none (feed_by (length piece - 0) (length out₀ - 0) r₀ cells₀ piece)
+            ∙ ap (λ (k : ℕ). feed_by k (length out₀ - 0) r₀ cells₀ piece) y
             ∙ ap (λ (k : ℕ). feed_by (length piece) k r₀ cells₀ piece) z
             ∙ cond_no (too_short r₀ (length cells₀) (length out₀)) _ _ (sym q ∙ e);
       }
 
   module _ (turns at wrote : ℕ) (r : Run) (cells out : List ℕ) (g : Going turns at wrote r cells out) where
-    ends : feed_by turns (length out - wrote) r cells (drop at piece) ≡ stands 0 r cells → (f : Fed) → f ≡ record { refusal = 0; run = r; used = at; wrote = wrote } → Post f cells out
+    ends : feed_by turns (length out - wrote) r cells (drop at piece) ≡ stands passed r cells → (f : Fed) → f ≡ record { run = r; used = at; wrote = wrote } → Post (Ok f) cells out
     ends q f is_f =
         let l : length (take wrote out) ≡ wrote = length-take-le wrote out g.wrote-inside in
-        closed (record { refusal = 0; run = r; cells = cells; used = at; text = take wrote out })
-        (sym (behind-stands at 0 (take wrote out) r cells) ∙ ap (behind at (take wrote out)) (sym q) ∙ g.is)
-        g.at-inside (omega (arith, l, g.long, g.wrote-inside)) f
-        (is_f ∙ ap (λ (n : ℕ). record { refusal = 0; run = r; used = at; wrote = n }) (sym l))
+        closed (record { check = passed; run = r; cells = cells; used = at; text = take wrote out })
+        (sym (behind-stands at passed (take wrote out) r cells) ∙ ap (behind at (take wrote out)) (sym q) ∙ g.is)
+        g.at-inside (omega (arith, l, g.long, g.wrote-inside)) (Ok f)
+        (ap Ok (is_f ∙ ap (λ (n : ℕ). record { run = r; used = at; wrote = n }) (sym l)))
         cells refl out
         (sym (take-append-drop wrote out) ∙ ap (λ (t : List ℕ). take wrote out ++ t) g.rest ∙ ap (λ (n : ℕ). take wrote out ++ drop n out₀) (sym l))
 
-    pub no-turns : turns ≤ 0 → (f : Fed) → f ≡ record { refusal = 0; run = r; used = at; wrote = wrote } → Post f cells out
+    pub no-turns : turns ≤ 0 → (f : Fed) → f ≡ record { run = r; used = at; wrote = wrote } → Post (Ok f) cells out
     no-turns h f q = ends (turns-none turns (length out - wrote) r cells (drop at piece) h) f q
 
     module _ (some : 0 < turns) (b : Bool) (is_b : b ≡ (eqb (length piece - at) 0 || ltb (length out - wrote) line_most)) where
       test-is : (eqb (length (drop at piece)) 0 || ltb (length out - wrote) line_most) ≡ b
       test-is = ap (λ (n : ℕ). eqb n 0 || ltb (length out - wrote) line_most) (length-drop at piece) ∙ sym is_b
 
-      pub no_more : b ≡ true → (f : Fed) → f ≡ record { refusal = 0; run = r; used = at; wrote = wrote } → Post f cells out
+      pub no_more : b ≡ true → (f : Fed) → f ≡ record { run = r; used = at; wrote = wrote } → Post (Ok f) cells out
       no_more e f q = ends (turn-stops turns (length out - wrote) r cells (drop at piece) some (test-is ∙ e)) f q
 
       module _ (e : b ≡ false) where
@@ -296,8 +309,8 @@ module _ (r₀ : Run) (cells₀ piece out₀ : List ℕ) where
             fits : wrote + length text ≤ length out
             fits = omega (arith, line-room, a.small)
 
-            pub again : Going (turns - 1) (at + f.used) next f.run cells' out'
-            again =
+            pub again : (less : ℕ) → less ≡ turns - 1 → Going less (at + f.used) next f.run cells' out'
+            again less is-less =
                 let long = added-long text wrote next out out' a fits in
                 let left : length out - wrote - length text ≡ length out' - next = omega (arith, long, a.ends) in
                 let was : feed_by turns (length out - wrote) r cells (drop at piece)
@@ -313,7 +326,8 @@ module _ (r₀ : Run) (cells₀ piece out₀ : List ℕ) where
                   rest = added-rest text wrote next out out' a fits ∙ ap (λ (n : ℕ). drop n out) a.ends ∙ sym (drop-drop (length text) wrote out) ∙ ap (drop (length text)) g.rest ∙ drop-drop (length text) wrote out₀ ∙ ap (λ (n : ℕ). drop n out₀) (sym a.ends);
                   filled = omega (arith, holds.filled, same);
                   longest = subst (λ (c : VotingConfig). longest_record c ≤ length cells') (sym holds.settings-stay) (omega (arith, g.longest, same));
-                  is = ap (λ (x : List ℕ). behind (at + f.used) x (feed_by (turns - 1) (length out' - next) f.run cells' (drop (at + f.used) piece))) (added-front text wrote next out out' a fits)
+                  is = ap (λ (k : ℕ). behind (at + f.used) (take next out') (feed_by k (length out' - next) f.run cells' (drop (at + f.used) piece))) is-less
+                      ∙ ap (λ (x : List ℕ). behind (at + f.used) x (feed_by (turns - 1) (length out' - next) f.run cells' (drop (at + f.used) piece))) (added-front text wrote next out out' a fits)
                       ∙ ap (λ (n : ℕ). behind (at + f.used) (take wrote out ++ text) (feed_by (turns - 1) n f.run cells' (drop (at + f.used) piece))) (sym left)
                       ∙ ap (λ (x : List ℕ). behind (at + f.used) (take wrote out ++ text) (feed_by (turns - 1) (length out - wrote - length text) f.run cells' x)) (sym (drop-drop f.used at piece))
                       ∙ sym (behind-behind at f.used (take wrote out) text (feed_by (turns - 1) (length out - wrote - length text) f.run cells' (drop f.used (drop at piece))))
@@ -328,38 +342,38 @@ unfolding text_of
 end-text p accepted n q = ap text_of q
 
 module _ (r : Run) (cells : List ℕ) (n : ℕ) (out : List ℕ) (b : Bool) (is_b : b ≡ too_short r (length cells) (length out)) where
-  abbrev pub Last : Fed → List ℕ → Type 0
+  abbrev pub Last : Result Fed Refusal → List ℕ → Type 0
   Last f out' = (f ≡ fed_of (last_of r cells n (length out))) × (out' ≡ written (last_of r cells n (length out)).text out)
 
-  left : (a : After) → a ≡ last_of r cells n (length out) → (f : Fed) → f ≡ fed_of a → (out' : List ℕ) → out' ≡ written a.text out → Last f out'
+  left : (a : After) → a ≡ last_of r cells n (length out) → (f : Result Fed Refusal) → f ≡ fed_of a → (out' : List ℕ) → out' ≡ written a.text out → Last f out'
   left a q f is_f out' is-out = (is_f ∙ ap fed_of q, is-out ∙ ap (λ (x : After). written x.text out) q)
 
-  pub last-short : b ≡ true → (f : Fed) → f ≡ record { refusal = output_short; run = r; used = 0; wrote = 0 } → Last f out
+  pub last-short : b ≡ true → Last (Err OutputShort) out
   unfolding last_of
-  last-short e f q = left (stands output_short r cells) (cond_yes (too_short r (length cells) (length out)) _ _ (sym is_b ∙ e)) f q out refl
+  last-short e = left (stands (Err OutputShort) r cells) (cond_yes (too_short r (length cells) (length out)) _ _ (sym is_b ∙ e)) _ refl out refl
 
   module _ (e : b ≡ false) where
     last-by : last_by r cells n ≡ last_of r cells n (length out)
     unfolding last_of
     last-by = cond_no (too_short r (length cells) (length out)) _ _ (sym is_b ∙ e)
 
-    pub last-over : r.over ≡ true → (f : Fed) → f ≡ record { refusal = 0; run = r; used = 0; wrote = 0 } → Last f out
+    pub last-over : r.over ≡ true → (f : Fed) → f ≡ record { run = r; used = 0; wrote = 0 } → Last (Ok f) out
     unfolding last_by
-    last-over o f q = left (stands 0 r cells) (cond_yes r.over _ _ o ∙ last-by) f q out refl
+    last-over o f q = left (stands passed r cells) (cond_yes r.over _ _ o ∙ last-by) (Ok f) (ap Ok q) out refl
 
     pub last-room : 0 + line_most ≤ length out
     last-room = let h = (enough r (length cells) (length out) b is_b e).line in omega (arith, h)
 
     pub last_line : r.over ≡ false → (p : Print) → text_of p ≡ end_line r.accepted n → (wrote : ℕ) (out' : List ℕ) → Added (text_of p) 0 wrote out out'
-        → (r' : Run) → r' ≡ ended r → (f : Fed) → f ≡ record { refusal = 0; run = r'; used = 0; wrote = wrote } → Last f out'
+        → (r' : Run) → r' ≡ ended r → (f : Fed) → f ≡ record { run = r'; used = 0; wrote = wrote } → Last (Ok f) out'
     unfolding last_by
     last_line o p t wrote out' a r' is-r f q =
         let z : 0 + length (text_of p) ≡ length (text_of p) = omega arith in
         let is-out : out' ≡ written (text_of p) out = a.is ∙ ap (λ (k : ℕ). text_of p ++ drop k out) z in
-        left (record { refusal = 0; run = ended r; cells = cells; used = 0; text = end_line r.accepted n }) (cond_no r.over _ _ o ∙ last-by) f
-        (q
-        ∙ ap (λ (x : Run). record { refusal = 0; run = x; used = 0; wrote = wrote }) is-r
-        ∙ ap (λ (k : ℕ). record { refusal = 0; run = ended r; used = 0; wrote = k }) (a.ends ∙ z ∙ ap length t))
+        left (record { check = passed; run = ended r; cells = cells; used = 0; text = end_line r.accepted n }) (cond_no r.over _ _ o ∙ last-by) (Ok f)
+        (ap Ok (q
+        ∙ ap (λ (x : Run). record { run = x; used = 0; wrote = wrote }) is-r
+        ∙ ap (λ (k : ℕ). record { run = ended r; used = 0; wrote = k }) (a.ends ∙ z ∙ ap length t)))
         out'
         (is-out ∙ ap (λ (x : List ℕ). written x out) t)
 
@@ -369,41 +383,41 @@ module _ (r : Run) (cells : List ℕ) (room : ℕ) where
   unfolding last_of
   last-is y h n = cond_no (too_short r (length cells) room) _ _ (ready-enough r cells room y h)
 
-  over-ends : r.over ≡ true → Ends r cells room (stands 0 r cells)
+  over-ends : r.over ≡ true → Ends r cells room (stands passed r cells)
   over-ends o = record { passes = refl; fits = omega arith; is-over = o; all = ahead-over r cells [] o }
 
   line-ends : line_most ≤ room → (n : ℕ) → ahead r cells [] ≡ end_line r.accepted n
-      → Ends r cells room (record { refusal = 0; run = ended r; cells = cells; used = 0; text = end_line r.accepted n })
+      → Ends r cells room (record { check = passed; run = ended r; cells = cells; used = 0; text = end_line r.accepted n })
   line-ends h n e = record { passes = refl; fits = let m = end-most r.accepted n in omega (arith, m, h); is-over = refl; all = e }
 
   -- an input that ends inside a record, or after one
-  pub end_line_lem : Ready r cells → r.over ≡ false → ahead r cells [] ≡ end_line r.accepted (cond (eqb r.filled 0) 0 record_malformed)
+  pub end_line_lem : Ready r cells → r.over ≡ false → ahead r cells [] ≡ end_line r.accepted (cond (eqb r.filled 0) 0 (number RecordMalformed))
   end_line_lem y o = ahead-on r cells [] o ∙ go r.filled refl
     where
       inside-line : Held (end_at r.replay.settings) (held r cells) → 0 < length (held r cells)
-          → printed_after (end_at r.replay.settings) step_of r.replay r.accepted (held r cells ++ []) ≡ end_line r.accepted record_malformed
+          → printed_after (end_at r.replay.settings) step_of r.replay r.accepted (held r cells ++ []) ≡ end_line r.accepted (number RecordMalformed)
       inside-line (of-short k q) h = left-short (end_at r.replay.settings) (lawful r.replay.settings) step_of r.replay r.accepted (held r cells) k q h
       inside-line (of-unless e q) h = absurd (says r.replay.settings (held r cells) (unless e) q)
 
-      go : (k : ℕ) → r.filled ≡ k → printed_after (end_at r.replay.settings) step_of r.replay r.accepted (held r cells ++ []) ≡ end_line r.accepted (cond (eqb k 0) 0 record_malformed)
+      go : (k : ℕ) → r.filled ≡ k → printed_after (end_at r.replay.settings) step_of r.replay r.accepted (held r cells ++ []) ≡ end_line r.accepted (cond (eqb k 0) 0 (number RecordMalformed))
       go zero e =
           ap (λ (j : ℕ). printed_after (end_at r.replay.settings) step_of r.replay r.accepted (take j cells ++ [])) e
           ∙ left-none (end_at r.replay.settings) (lawful r.replay.settings) step_of r.replay r.accepted
       go (suc k) e = rw (ne_eqb (suc k) 0 (λ z. omega arith)) (inside-line (y.waits o) (let l = took r.filled cells y.inside in omega (arith, l, e)))
 
   -- an input that can't be read on
-  pub fail-line : Ready r cells → line_most ≤ room → r.over ≡ false → (fail_of r cells room).text ≡ end_line r.accepted record_malformed
+  pub fail-line : Ready r cells → line_most ≤ room → r.over ≡ false → (fail_of r cells room).text ≡ end_line r.accepted (number RecordMalformed)
   unfolding last_by
-  fail-line y h o = ap (λ (a : After). a.text) (sym (last-is y h record_malformed) ∙ sym (cond_no r.over _ _ o))
+  fail-line y h o = ap (λ (a : After). a.text) (sym (last-is y h (number RecordMalformed)) ∙ sym (cond_no r.over _ _ o))
 
   pub finishes : Ready r cells → line_most ≤ room → Ends r cells room (finish_of r cells room)
-  finishes y h = subst (Ends r cells room) (last-is y h (cond (eqb r.filled 0) 0 record_malformed)) (by r.over refl)
+  finishes y h = subst (Ends r cells room) (last-is y h (cond (eqb r.filled 0) 0 (number RecordMalformed))) (by r.over refl)
     where
-      by : (b : Bool) → r.over ≡ b → Ends r cells room (last_by r cells (cond (eqb r.filled 0) 0 record_malformed))
+      by : (b : Bool) → r.over ≡ b → Ends r cells room (last_by r cells (cond (eqb r.filled 0) 0 (number RecordMalformed)))
       by true o = unfold last_by in (subst (Ends r cells room) (cond_yes r.over _ _ o) (over-ends o))
-      by false o = unfold last_by in (subst (Ends r cells room) (cond_no r.over _ _ o) (line-ends h (cond (eqb r.filled 0) 0 record_malformed) (end_line_lem y o)))
+      by false o = unfold last_by in (subst (Ends r cells room) (cond_no r.over _ _ o) (line-ends h (cond (eqb r.filled 0) 0 (number RecordMalformed)) (end_line_lem y o)))
 
-module _ (r : Run) (cells out : List ℕ) (n : ℕ) (is-n : n ≡ cond (eqb r.filled 0) 0 record_malformed) (f : Fed) (out' : List ℕ)
+module _ (r : Run) (cells out : List ℕ) (n : ℕ) (is-n : n ≡ cond (eqb r.filled 0) 0 (number RecordMalformed)) (f : Result Fed Refusal) (out' : List ℕ)
     (q : (f ≡ fed_of (last_of r cells n (length out))) × (out' ≡ written (last_of r cells n (length out)).text out)) where
   pub finished : (f ≡ fed_of (finish_of r cells (length out)))
       × ((out' ≡ written (finish_of r cells (length out)).text out) × (Ready r cells → line_most ≤ length out → Ends r cells (length out) (finish_of r cells (length out))))
@@ -413,8 +427,8 @@ module _ (r : Run) (cells out : List ℕ) (n : ℕ) (is-n : n ≡ cond (eqb r.fi
   )
 
 module _ (k : ℕ) where
-  pub filled_none : k ≡ 0 → 0 ≡ cond (eqb k 0) 0 record_malformed
+  pub filled_none : k ≡ 0 → 0 ≡ cond (eqb k 0) 0 (number RecordMalformed)
   filled_none e = rw (eq-eqb k 0 e)
 
-  pub filled-some : (k ≡ 0 → ⊥) → record_malformed ≡ cond (eqb k 0) 0 record_malformed
-  filled-some e = rw (ne_eqb k 0 e)
+  pub filled-some : (k ≡ 0 → ⊥) → (n : ℕ) → n ≡ number RecordMalformed → n ≡ cond (eqb k 0) 0 (number RecordMalformed)
+  filled-some e n q = rw (ne_eqb k 0 e) q

@@ -7,7 +7,7 @@ use lib.Signed.{lt_z, mag}
 use mir.ValLaws.{to_z-of_z}
 use Rattle.codec.specs.Decimal.{digits}
 use Rattle.codec.specs.Output.{wrote, refused, writes}
-use Rattle.codec.specs.Refusal.{output_short}
+use Rattle.codec.specs.declared.refusal.Refusal.TheVariants.{OutputShort}
 use Rattle.codec.proofs.Laws.Decimal.{digits-length}
 use Rattle.codec.proofs.Laws.Output.{short, done}
 use Rattle.codec.proofs.Laws.Signed.{is-neg, not_neg, flip}
@@ -53,7 +53,7 @@ module _ (text : List ℕ) (n : ℕ) (fits : n ≤ length text) where
   pub part_length : n ≡ length (take n text)
   part_length = sym (length-take-le n text fits)
 
-  pub too_short : (d : List ℕ) → length d < n → refused output_short d ≡ writes (take n text) d
+  pub too_short : (d : List ℕ) → length d < n → refused OutputShort d ≡ writes (take n text) d
   too_short d h = short (take n text) d n part_length h
 
   pub handed : (d : List ℕ) → n ≤ length d → (after : List ℕ) → after ≡ sets d 0 (take n text) → wrote n after ≡ writes (take n text) d

@@ -1,23 +1,22 @@
 -- One record of a piece, by the ways through the code; and what it means for the input.
 -- Assumes nothing.
-use Rattle.std.proofs.Common.{◌≡◌, ℕ, zero, suc, ◌+◌, ◌-◌, ◌*◌, ◌%◌, ◌<◌, ◌≤◌, Bool, true, false, cond, List, [], ◌∷◌, ◌++◌, length, take, drop, sym, refl, ap, ◌∙◌, subst, true≢false, append-nil, add-one, arith, length-append, length-drop, length-take-le, take_all, take_at, le-leb}
+use Rattle.std.proofs.Common.{Result, Ok, Err, ◌≡◌, ℕ, zero, suc, ◌+◌, ◌-◌, ◌*◌, ◌%◌, ◌<◌, ◌≤◌, Bool, true, false, cond, List, [], ◌∷◌, ◌++◌, length, take, drop, sym, refl, ap, ◌∙◌, subst, true≢false, append-nil, add-one, arith, length-append, length-drop, length-take-le, take_all, take_at, le-leb}
 use lib.Seq.{sets, sets-eq}
-use Rattle.codec.specs.Refusal.{entry_differs, record_malformed}
+use Rattle.codec.specs.declared.refusal.Refusal.TheVariants.{RecordMalformed}
+use Rattle.codec.specs.Refusal.{number}
 use Rattle.codec.specs.Output.{Outcome, wrote, writes}
 use Rattle.voting.specs.declared.settings.VotingConfig.{VotingConfig}
 use Rattle.voting.specs.Settings.{voting_length}
 use Rattle.archive.specs.declared.record.RecordPlace.{RecordPlace}
-use Rattle.archive.specs.declared.record.RecordAt.{RecordAt}
-use Rattle.archive.specs.declared.record.RecordAt.TheVariants.{Whole, Short, Malformed}
+use Rattle.archive.specs.declared.record.Unread.{Unread}
+use Rattle.archive.specs.declared.record.Unread.TheVariants.{Short, Malformed}
 use Rattle.archive.specs.declared.replay.Replay.{Replay}
-use Rattle.archive.specs.declared.replay.Replayed.{Replayed}
-use Rattle.archive.specs.declared.replay.Verdict.{Verdict}
-use Rattle.archive.specs.declared.replay.Verdict.TheVariants.{Accepted, Refused, Mismatch}
+use Rattle.archive.specs.declared.replay.Rejection.{Rejection}
 use Rattle.archive.specs.Record.{record_at}
-use Rattle.archive.specs.Replay.{votes_size, replay_of}
+use Rattle.archive.specs.Replay.{votes_size, replay_of, rejection_number}
 use Rattle.archive.specs.Rounds.{record_height}
 use Rattle.archive.proofs.Laws.RecordTrip.{short-room, whole-exact}
-use Rattle.archive.proofs.Laws.Rounds.{KeepsBy, keeps, accepted-at}
+use Rattle.archive.proofs.Laws.Rounds.{settings-kept, accepted-at}
 use Rattle.stream.specs.declared.run.Run.{Run}
 use Rattle.stream.specs.declared.run.Took.{Took}
 use Rattle.stream.specs.declared.run.EpochPrint.{EpochPrint}
@@ -71,34 +70,34 @@ ends_with r r' p used n e f =
     ap (λ (x : Run). record { run = x; used = used; print = p }) e ∙ ap (λ (x : Print). record { run = ended r; used = used; print = x }) f
 
 -- at least how many bytes are missing
-module _ (g : VotingConfig) (bytes : List ℕ) (x : RecordAt) (q : x ≡ record_at bytes (votes_size g)) where
-  missing_at : (y : RecordAt) → x ≡ y → missing (end_of y) ≡ missing (end_at g bytes)
+module _ (g : VotingConfig) (bytes : List ℕ) (x : Result RecordPlace Unread) (q : x ≡ record_at bytes (votes_size g)) where
+  missing_at : (y : Result RecordPlace Unread) → x ≡ y → missing (end_of y) ≡ missing (end_at g bytes)
   unfolding end_at
-  missing_at y e = ap (λ (z : RecordAt). missing (end_of z)) (sym e ∙ q)
+  missing_at y e = ap (λ (z : Result RecordPlace Unread). missing (end_of z)) (sym e ∙ q)
 
-  pub missing-whole : (p : RecordPlace) → x ≡ Whole p → 0 ≡ missing (end_at g bytes)
+  pub missing-whole : (p : RecordPlace) → x ≡ Ok p → 0 ≡ missing (end_at g bytes)
   unfolding missing end_of
-  missing-whole p e = missing_at (Whole p) e
+  missing-whole p e = missing_at (Ok p) e
 
-  pub missing-short : (k : ℕ) → x ≡ Short k → k ≡ missing (end_at g bytes)
+  pub missing-short : (k : ℕ) → x ≡ Err (Short k) → k ≡ missing (end_at g bytes)
   unfolding missing end_of
-  missing-short k e = missing_at (Short k) e
+  missing-short k e = missing_at (Err (Short k)) e
 
-  pub missing-none : x ≡ Malformed → 0 ≡ missing (end_at g bytes)
+  pub missing-none : x ≡ Err Malformed → 0 ≡ missing (end_at g bytes)
   unfolding missing end_of
-  missing-none e = missing_at Malformed e
+  missing-none e = missing_at (Err Malformed) e
 
-module _ (r : Run) (bytes : List ℕ) (x : RecordAt) (q : x ≡ record_at bytes (sized r)) where
+module _ (r : Run) (bytes : List ℕ) (x : Result RecordPlace Unread) (q : x ≡ record_at bytes (sized r)) where
   module _ (used : ℕ) where
-    pub bytes_whole : (p : RecordPlace) → x ≡ Whole p → (y : Replayed) → y ≡ replay_of r.replay bytes → after_replay r p.height used y.verdict y.state ≡ on_bytes r bytes used
+    pub bytes_whole : (p : RecordPlace) → x ≡ Ok p → (y : Result Replay Rejection) → y ≡ replay_of r.replay bytes → after_replay r p.height used y ≡ on_bytes r bytes used
     unfolding after_bytes
-    bytes_whole p e y z = ap (λ (w : Replayed). after_replay r p.height used w.verdict w.state) z ∙ ap (after_bytes r bytes used) (sym e ∙ q)
+    bytes_whole p e y z = ap (after_replay r p.height used) z ∙ ap (after_bytes r bytes used) (sym e ∙ q)
 
-    pub bytes-short : (k : ℕ) → x ≡ Short k → waits_with r (length bytes) used ≡ on_bytes r bytes used
+    pub bytes-short : (k : ℕ) → x ≡ Err (Short k) → waits_with r (length bytes) used ≡ on_bytes r bytes used
     unfolding after_bytes
     bytes-short k e = ap (after_bytes r bytes used) (sym e ∙ q)
 
-    pub bytes-malformed : x ≡ Malformed → ends_by r used record_malformed ≡ on_bytes r bytes used
+    pub bytes-malformed : x ≡ Err Malformed → ends_by r used (number RecordMalformed) ≡ on_bytes r bytes used
     unfolding after_bytes
     bytes-malformed e = ap (after_bytes r bytes used) (sym e ∙ q)
 
@@ -186,17 +185,16 @@ pub record Keeps (r : Run) (used : ℕ) (f : Took) : Type 0 where
   pub holds : f.run.filled ≤ r.filled + used
   pub settings-stay : f.run.replay.settings ≡ r.replay.settings
 
-replay-keeps : (r : Run) (height used : ℕ) (v : Verdict) (t : Replay) → KeepsBy r.replay v t → Keeps r used (after_replay r height used v t)
+replay-keeps : (r : Run) (height used : ℕ) (x : Result Replay Rejection) → ((t : Replay) → x ≡ Ok t → t.settings ≡ r.replay.settings) → Keeps r used (after_replay r height used x)
 unfolding after_replay
-replay-keeps r height used Accepted t k = record { takes = refl; holds = omega arith; settings-stay = k }
-replay-keeps r height used (Refused n) t k = record { takes = refl; holds = omega arith; settings-stay = refl }
-replay-keeps r height used (Mismatch id) t k = record { takes = refl; holds = omega arith; settings-stay = refl }
+replay-keeps r height used (Ok t) k = record { takes = refl; holds = omega arith; settings-stay = k t refl }
+replay-keeps r height used (Err e) k = record { takes = refl; holds = omega arith; settings-stay = refl }
 
-bytes-keep : (r : Run) (xs : List ℕ) (used : ℕ) → length xs ≡ r.filled + used → (x : RecordAt) → Keeps r used (after_bytes r xs used x)
+bytes-keep : (r : Run) (xs : List ℕ) (used : ℕ) → length xs ≡ r.filled + used → (x : Result RecordPlace Unread) → Keeps r used (after_bytes r xs used x)
 unfolding after_bytes
-bytes-keep r xs used l (Whole p) = replay-keeps r p.height used (replay_of r.replay xs).verdict (replay_of r.replay xs).state (keeps r.replay xs)
-bytes-keep r xs used l (Short k) = record { takes = refl; holds = omega (arith, l); settings-stay = refl }
-bytes-keep r xs used l Malformed = record { takes = refl; holds = omega arith; settings-stay = refl }
+bytes-keep r xs used l (Ok p) = replay-keeps r p.height used (replay_of r.replay xs) (settings-kept r.replay xs)
+bytes-keep r xs used l (Err (Short k)) = record { takes = refl; holds = omega (arith, l); settings-stay = refl }
+bytes-keep r xs used l (Err Malformed) = record { takes = refl; holds = omega arith; settings-stay = refl }
 
 pub record Holds (r : Run) (cells piece : List ℕ) (f : Took) : Type 0 where
   pub inside : f.used ≤ length piece
@@ -332,11 +330,11 @@ module _ (r : Run) (cells piece : List ℕ) (y : Ready r cells) (some : 0 < leng
           ready = ready_with r (ended r) cells after y refl y.low same-room (omega arith) (λ o. absurd (true≢false o));
         }
 
-    malformed-goes : Malformed ≡ record_at all (sized r) → Goes r cells piece (ends_by r (length now) record_malformed) after
+    malformed-goes : Err Malformed ≡ record_at all (sized r) → Goes r cells piece (ends_by r (length now) (number RecordMalformed)) after
     malformed-goes q =
-        ends-goes record_malformed (λ more. ahead-on r cells (piece ++ more) on ∙ goes-malformed (end_at g) (lawful g) step_of s r.accepted old piece more w some (at-malformed g all q))
+        ends-goes (number RecordMalformed) (λ more. ahead-on r cells (piece ++ more) on ∙ goes-malformed (end_at g) (lawful g) step_of s r.accepted old piece more w some (at-malformed g all q))
 
-    short-goes : (k : ℕ) → Short k ≡ record_at all (sized r) → Goes r cells piece (waits_with r (length all) (length now)) after
+    short-goes : (k : ℕ) → Err (Short k) ≡ record_at all (sized r) → Goes r cells piece (waits_with r (length all) (length now)) after
     unfolding text_of ahead
     short-goes k q =
         record {
@@ -350,7 +348,7 @@ module _ (r : Run) (cells piece : List ℕ) (y : Ready r cells) (some : 0 < leng
         }
 
     -- a whole record ends with the bytes that were taken
-    module _ (p : RecordPlace) (q : Whole p ≡ record_at all (sized r)) where
+    module _ (p : RecordPlace) (q : Ok p ≡ record_at all (sized r)) where
       ends_there : Held (end_at g) old → p.end ≡ length all
       unfolding missing
       ends_there (of-short k e) =
@@ -365,30 +363,28 @@ module _ (r : Run) (cells piece : List ℕ) (y : Ready r cells) (some : 0 < leng
       behind-old : p.end - length old ≡ length now
       behind-old = omega (arith, end_is, all-long)
 
-      step_is : step_of s (take p.end all) ≡ step_by p.height (replay_of s all).verdict (replay_of s all).state
+      step_is : step_of s (take p.end all) ≡ step_by p.height (replay_of s all)
       unfolding step_of record_height
-      step_is = ap (step_of s) (take_all p.end all (omega (arith, end_is))) ∙ ap (λ (x : RecordAt). step_by (record_height x) (replay_of s all).verdict (replay_of s all).state) (sym q)
+      step_is = ap (step_of s) (take_all p.end all (omega (arith, end_is))) ∙ ap (λ (x : Result RecordPlace Unread). step_by (record_height x) (replay_of s all)) (sym q)
 
       beyond : length old ≤ p.end
       beyond = omega (arith, end_is, all-long)
-
-      abbrev t : Replay
-      t = (replay_of s all).state
 
       stops-goes : (n : ℕ) → step_of s (take p.end all) ≡ stops n → Goes r cells piece (ends_by r (length now) n) after
       stops-goes n e =
           ends-goes n (λ more. ahead-on r cells (piece ++ more) on ∙ goes-refused (end_at g) (lawful g) step_of s r.accepted old piece more w some p.end (at-whole g all p q) beyond n e)
 
-      accepted-goes : (replay_of s all).verdict ≡ Accepted → t.settings ≡ g → step_of s (take p.end all) ≡ goes t (epoch_line p.height t.table.fork)
-          → Goes r cells piece (after_replay r p.height (length now) Accepted t) after
+      accepted-goes : (t : Replay) → replay_of s all ≡ Ok t → step_of s (take p.end all) ≡ goes t (epoch_line p.height t.table.fork)
+          → Goes r cells piece (after_replay r p.height (length now) (Ok t)) after
       unfolding text_of ahead after_replay
-      accepted-goes v k e =
-          let a = accepted-at s all v in
+      accepted-goes t v e =
+          let a = accepted-at s all t v in
+          let k = settings-kept s all t v in
           let l = voting_length g in
           let x = low-times r.accepted l y.some in
           let low = y.low in
           let fit : (r.accepted + 1) % 4294967296 ≡ r.accepted + 1 = omega (arith, a.0, x, low, y.some) in
-          let f = after_replay r p.height (length now) Accepted t in
+          let f = after_replay r p.height (length now) (Ok t) in
           let line = epoch_line p.height t.table.fork in
           let grown : (r.accepted + 1) * l ≤ t.next = (let m = add_times r.accepted l in omega (arith, a.1, m, low)) in
           record {
@@ -403,17 +399,16 @@ module _ (r : Run) (cells piece : List ℕ) (y : Ready r cells) (some : 0 < leng
             ready = ready_with r f.run cells after y k (subst (λ (n : ℕ). n * l ≤ t.next) (sym fit) grown) same-room (omega arith) (λ o. of-short 3 (lawful g).none);
           }
 
-      whole-goes : (v : Verdict) → (replay_of s all).verdict ≡ v → KeepsBy s v t → Goes r cells piece (after_replay r p.height (length now) v t) after
+      whole-goes : (x : Result Replay Rejection) → replay_of s all ≡ x → Goes r cells piece (after_replay r p.height (length now) x) after
       unfolding step_by after_replay
-      whole-goes Accepted e k = accepted-goes e k (step_is ∙ ap (λ (x : Verdict). step_by p.height x t) e)
-      whole-goes (Refused n) e k = stops-goes n (step_is ∙ ap (λ (x : Verdict). step_by p.height x t) e)
-      whole-goes (Mismatch id) e k = stops-goes entry_differs (step_is ∙ ap (λ (x : Verdict). step_by p.height x t) e)
+      whole-goes (Ok t) e = accepted-goes t e (step_is ∙ ap (step_by p.height) e)
+      whole-goes (Err n) e = stops-goes (rejection_number n) (step_is ∙ ap (step_by p.height) e)
 
-    bytes-go : (x : RecordAt) → x ≡ record_at all (sized r) → Goes r cells piece (after_bytes r all (length now) x) after
+    bytes-go : (x : Result RecordPlace Unread) → x ≡ record_at all (sized r) → Goes r cells piece (after_bytes r all (length now) x) after
     unfolding after_bytes
-    bytes-go (Whole p) q = whole-goes p q (replay_of s all).verdict refl (keeps s all)
-    bytes-go (Short k) q = short-goes k q
-    bytes-go Malformed q = malformed-goes q
+    bytes-go (Ok p) q = whole-goes p q (replay_of s all) refl
+    bytes-go (Err (Short k)) q = short-goes k q
+    bytes-go (Err Malformed) q = malformed-goes q
 
     on-goes : Goes r cells piece (took_of r cells piece) (took_cells r cells piece)
     on-goes =

@@ -2,7 +2,8 @@
 -- Assumes nothing.
 use Rattle.std.proofs.Common.{◌≡◌, ℕ, zero, suc, ◌+◌, ◌-◌, ◌<◌, ◌≤◌, List, [], ◌∷◌, ◌++◌, length, take, drop, sym, refl, ap, ◌∙◌, subst, append_assoc, append-nil, arith, length-append, length-drop}
 use lib.Seq.{take-append-le, drop-append-le, drop-append-add}
-use Rattle.codec.specs.Refusal.{record_malformed}
+use Rattle.codec.specs.declared.refusal.Refusal.TheVariants.{RecordMalformed}
+use Rattle.codec.specs.Refusal.{number}
 use Rattle.stream.specs.Lines.{end_line}
 use Rattle.stream.specs.Stream.{At, whole, unless, short, malformed, Step, goes, stops, after_step, after_at, printed_from, printed_after, missing, Held, of-short, of-unless}
 
@@ -81,7 +82,7 @@ module _ {S : Type 0} (at : List ℕ → At) (law : Lawful at) (step : S → Lis
   unfolding printed_from
   left-none s n = refl
 
-  pub left-short : (s : S) (n : ℕ) (bytes : List ℕ) (k : ℕ) → short k ≡ at bytes → 0 < length bytes → left s n (bytes ++ []) ≡ end_line n record_malformed
+  pub left-short : (s : S) (n : ℕ) (bytes : List ℕ) (k : ℕ) → short k ≡ at bytes → 0 < length bytes → left s n (bytes ++ []) ≡ end_line n (number RecordMalformed)
   unfolding after_at
   left-short s n bytes k q h = ap (left s n) (append-nil bytes) ∙ left-some s n bytes h ∙ rw (← q)
 
@@ -90,7 +91,7 @@ module _ {S : Type 0} (at : List ℕ → At) (law : Lawful at) (step : S → Lis
     long : length (bytes ++ rest) ≡ length bytes + length rest
     long = length-append bytes rest
 
-    left-malformed : malformed ≡ at bytes → left s n (bytes ++ rest) ≡ end_line n record_malformed
+    left-malformed : malformed ≡ at bytes → left s n (bytes ++ rest) ≡ end_line n (number RecordMalformed)
     unfolding after_at
     left-malformed q = left-some s n (bytes ++ rest) (omega (arith, long)) ∙ rw (← law.malformed-stays bytes rest q)
 
@@ -146,7 +147,7 @@ module _ {S : Type 0} (at : List ℕ → At) (law : Lawful at) (step : S → Lis
         ap (left s n)
         (ap (λ (x : List ℕ). bytes ++ (x ++ more)) (sym (taken-split (missing (at bytes)) piece)) ∙ ap (λ (x : List ℕ). bytes ++ x) (append_assoc t rest more) ∙ sym (append_assoc bytes t (rest ++ more)))
 
-    pub goes-malformed : malformed ≡ at (bytes ++ t) → left s n (bytes ++ (piece ++ more)) ≡ end_line n record_malformed
+    pub goes-malformed : malformed ≡ at (bytes ++ t) → left s n (bytes ++ (piece ++ more)) ≡ end_line n (number RecordMalformed)
     goes-malformed q = goes-waiting ∙ left-malformed s n (bytes ++ t) (rest ++ more) new-some q
 
     -- a whole record, which ends among the bytes that were looked at

@@ -1,32 +1,19 @@
 -- The refusals of the calls, and what the calls leave, refused or not.
 -- Assumes nothing.
-use Rattle.std.proofs.Common.{◌≡◌, ℕ, zero, suc, ◌+◌, ◌%◌, ◌<◌, ◌≤◌, Bool, true, false, cond, not, ◌&&◌, eqb, ltb, leb, List, [], ◌∷◌, ◌++◌, length, get_or, drop, set, replicate, sym, refl, ap, ◌∙◌, add-one, arith, drop-cons, ltb-true, le-ltb, lt-ltb, eq-eqb, ne_eqb, eqb-true, le-leb, leb-true}
-use borrow.Author.Tests.{not-false}
-use lib.ListN.{length-replicate}
-use lib.Seq.{set_at, set-get_or}
-use Rattle.codec.specs.Refusal.{output_short, window_length_outside}
+use Rattle.std.proofs.Common.{◌≡◌, ℕ, ◌+◌, ◌%◌, ◌<◌, ◌≤◌, Bool, true, false, cond, ◌&&◌, eqb, ltb, leb, List, [], ◌∷◌, ◌++◌, length, get_or, drop, set, replicate, sym, refl, ap, ◌∙◌, arith, ltb-true, le-ltb, lt-ltb, eq-eqb, ne_eqb, eqb-true, le-leb, leb-true}
+use lib.Seq.{set-get_or}
+use Rattle.std.specs.Prelude.{Ok, Err}
+use Rattle.codec.specs.declared.refusal.Refusal.{Refusal}
+use Rattle.codec.specs.declared.refusal.Refusal.TheVariants.{OutputShort, WindowLengthOutside}
+use Rattle.codec.specs.Check.{Check, passed}
 use Rattle.codec.proofs.Laws.Lists.{all-elements}
 use Rattle.counting.specs.Count.{count}
-use Rattle.voting.specs.Common.{first}
 use Rattle.voting.specs.Header.{votes_in, fault_in, check_votes, check_header_votes}
-use Rattle.voting.proofs.Laws.Tests.{both}
-use Rattle.voting.proofs.Laws.Header.{first-pass, first-stop, first-zero}
+use Rattle.voting.proofs.Laws.Tests.{both, and-stop, and-pass, and-passed}
 use Rattle.support.specs.declared.window.Window.{Window}
-use Rattle.support.specs.Window.{length_most, cell_of, left, room_refusal, empty, new_refusal, new_by, new_of, added, one_more, one_less, replaced, entered, more_held, place_after, onward, put_refusal, put_by, put_of}
+use Rattle.support.specs.Window.{length_most, cell_of, left, check_room, empty, check_new, new_by, new_of, added, one_more, one_less, replaced, entered, more_held, place_after, onward, check_put, put_by, put_of}
 
 -- ---- the cells
-
--- a store of 0 after i of them
-grown : (i : ℕ) (xs : List ℕ) → replicate i 0 ++ 0 ∷ xs ≡ replicate (suc i) 0 ++ xs
-grown zero xs = refl
-grown (suc i) xs = ap (λ (ys : List ℕ). 0 ∷ ys) (grown i xs)
-
-pub cleared_more : (cells now : List ℕ) (i : ℕ) → i < length cells → now ≡ replicate i 0 ++ drop i cells → set now i 0 ≡ replicate (i + 1) 0 ++ drop (i + 1) cells
-cleared_more cells now i h e =
-    rw (e, drop-cons cells i 0 h, set_at (replicate i 0) (get_or cells i 0) (drop (suc i) cells) 0 i (length-replicate i 0), add-one i) (grown i (drop (suc i) cells))
-
-pub cleared-all : (cells now : List ℕ) (i n : ℕ) → i ≤ n → n ≤ i → now ≡ replicate i 0 ++ drop i cells → now ≡ replicate n 0 ++ drop n cells
-cleared-all cells now i n h k e = let q : i ≡ n = omega arith in rw q at e
 
 pub counted_none : (support id n : ℕ) → id ≡ 0 → support ≡ cond (eqb id 0) support ((support + n) % 65536)
 counted_none support id n e = rw e
@@ -78,18 +65,14 @@ entered-none cells at votes p q is-p is-q e =
     ))
 
 -- a header without votes is legal
-pub no-votes-legal : check_header_votes (0 ∷ 0 ∷ 0 ∷ []) ≡ 0
+pub no-votes-legal : check_header_votes (0 ∷ 0 ∷ 0 ∷ []) ≡ passed
 unfolding check_header_votes check_votes votes_in fault_in count
 no-votes-legal = refl
 
-pub voteless-legal : (votes : List ℕ) → length votes ≡ 3 → (p : Bool) → p ≡ all_zero (get_or votes 0 0) (get_or votes 1 0) (get_or votes 2 0) → p ≡ true → 0 ≡ check_header_votes votes
+pub voteless-legal : (votes : List ℕ) → length votes ≡ 3 → (p : Bool) → p ≡ all_zero (get_or votes 0 0) (get_or votes 1 0) (get_or votes 2 0) → p ≡ true → passed ≡ check_header_votes votes
 voteless-legal votes l p is-p t =
     let none = all-zero (get_or votes 0 0) (get_or votes 1 0) (get_or votes 2 0) (sym is-p ∙ t) in
     sym (ap check_header_votes (sym (all-elements 3 votes l)) ∙ rw (none.0, none.1, none.2) no-votes-legal)
-
-pub passes-legal : (votes : List ℕ) → length votes ≡ 3 → (p : Bool) → p ≡ not (eqb (check_header_votes (get_or votes 0 0 ∷ get_or votes 1 0 ∷ get_or votes 2 0 ∷ [])) 0) → p ≡ false → 0 ≡ check_header_votes votes
-passes-legal votes l p is-p f =
-    sym (ap check_header_votes (sym (all-elements 3 votes l)) ∙ eqb-true (check_header_votes (get_or votes 0 0 ∷ get_or votes 1 0 ∷ get_or votes 2 0 ∷ [])) 0 (not-false _ (sym is-p ∙ f)))
 
 -- ---- the window
 
@@ -122,23 +105,23 @@ pub record Room (w : Window) (room : ℕ) : Type 0 where
   pub enough : cell_of w.length ≤ room
 
 module _ (w : Window) (room : ℕ) where
-  pub room_by : (t : Bool) (n : ℕ) → n ≡ cell_of w.length → (ltb w.oldest w.length && leb w.length length_most && leb n room) ≡ t → cond t 0 output_short ≡ room_refusal w room
-  unfolding room_refusal
+  pub room_by : (t : Bool) (n : ℕ) → n ≡ cell_of w.length → (ltb w.oldest w.length && leb w.length length_most && leb n room) ≡ t → cond t passed (Err OutputShort) ≡ check_room w room
+  unfolding check_room
   room_by t n e f = rw (← f, e)
 
-  pub room-fine : Room w room → 0 ≡ room_refusal w room
+  pub room-fine : Room w room → passed ≡ check_room w room
   room-fine r = room_by true (cell_of w.length) refl (rw (lt-ltb w.oldest w.length r.place, le-leb w.length length_most r.most, le-leb (cell_of w.length) room r.enough))
 
-  pub room-is : room_refusal w room ≡ 0 → Room w room
-  unfolding room_refusal
+  pub room-is : check_room w room ≡ passed → Room w room
+  unfolding check_room
   room-is = go (ltb w.oldest w.length && leb w.length length_most && leb (cell_of w.length) room) refl
     where
-      go : (t : Bool) → (ltb w.oldest w.length && leb w.length length_most && leb (cell_of w.length) room) ≡ t → cond t 0 output_short ≡ 0 → Room w room
+      go : (t : Bool) → (ltb w.oldest w.length && leb w.length length_most && leb (cell_of w.length) room) ≡ t → cond t passed (Err OutputShort) ≡ passed → Room w room
       go true q e =
           let a = both (ltb w.oldest w.length && leb w.length length_most) (leb (cell_of w.length) room) q in
           let b = both (ltb w.oldest w.length) (leb w.length length_most) a.0 in
           record { place = ltb-true w.oldest w.length b.0; most = leb-true w.length length_most b.1; enough = leb-true (cell_of w.length) room a.1 }
-      go false q e = absurd (omega arith)
+      go false q e = cc
 
 -- its cells, and the cells of the oldest's place
 pub cells-inside : (w : Window) (room size : ℕ) → Room w room → size ≡ cell_of w.length → size ≤ room
@@ -147,59 +130,50 @@ cells-inside w room size r e = rw e r.enough
 pub place_inside : (w : Window) (room at : ℕ) → Room w room → at ≡ cell_of w.oldest → (256 ≤ at) × (at + 2 < room)
 place_inside w room at r e = let p = r.place in let n = r.enough in (omega arith, omega arith)
 
--- two refusals in order
-pub first-is : (n m e r : ℕ) → e ≡ n → e ≡ 0 → r ≡ m → r ≡ first n m
-first-is n m e r p z q = q ∙ sym (first-pass n m (sym p ∙ z))
-
-pub first-was : (n m e : ℕ) → e ≡ n → (e ≡ 0 → ⊥) → e ≡ first n m
-first-was n m e p h = p ∙ sym (first-stop n m (λ z. h (p ∙ z)))
-
 -- ---- a new window
 
-pub length_most_lem : (n : ℕ) → leb 1 n && leb n length_most ≡ true → n ≤ length_most
-length_most_lem n t = leb-true n length_most (both (leb 1 n) (leb n length_most) t).1
-
 module _ (n room : ℕ) where
-  pub length-inside : leb 1 n && leb n length_most ≡ true → (w : Window) → w ≡ empty n → (r : ℕ) → r ≡ room_refusal w room → r ≡ new_refusal n room
-  unfolding new_refusal first
+  pub length-inside : leb 1 n && leb n length_most ≡ true → (w : Window) → w ≡ empty n → (r : Check) → r ≡ check_room w room → r ≡ check_new n room
+  unfolding check_new
   length-inside t w is r e = rw (t, e, is)
 
-  pub length-outside : leb 1 n && leb n length_most ≡ false → window_length_outside ≡ new_refusal n room
-  unfolding new_refusal first
+  pub length-outside : leb 1 n && leb n length_most ≡ false → Err WindowLengthOutside ≡ check_new n room
+  unfolding check_new
   length-outside t = rw t
 
-  pub new-room : new_refusal n room ≡ 0 → Room (empty n) room
-  unfolding new_refusal
-  new-room e = room-is (empty n) room (first-zero _ (room_refusal (empty n) room) e).1
+  pub new-room : check_new n room ≡ passed → Room (empty n) room
+  unfolding check_new
+  new-room e = room-is (empty n) room (and-passed _ (check_room (empty n) room) e).1
 
-module _ (n : ℕ) (cells : List ℕ) (e : ℕ) (is-e : e ≡ new_refusal n (length cells)) where
-  pub new-refused : (e ≡ 0 → ⊥) → left (record { refusal = e; window = empty 0 }) cells ≡ new_of n cells
+module _ (n : ℕ) (cells : List ℕ) {r : Check} (is-r : r ≡ check_new n (length cells)) where
+  pub new-refused : {e : Refusal} → r ≡ Err e → left (Err e) cells ≡ new_of n cells
   unfolding new_of new_by
-  new-refused h = go e h ∙ ap (λ (k : ℕ). new_by k n cells) is-e
-    where
-      go : (e : ℕ) → (e ≡ 0 → ⊥) → left (record { refusal = e; window = empty 0 }) cells ≡ new_by e n cells
-      go zero h = absurd (h refl)
-      go (suc k) h = refl
+  new-refused q = rw (← is-r, q)
 
-  pub new-made : e ≡ 0 → (after : List ℕ) → after ≡ replicate (cell_of n) 0 ++ drop (cell_of n) cells → left (record { refusal = 0; window = empty n }) after ≡ new_of n cells
+  pub new-made : r ≡ passed → (after : List ℕ) → after ≡ replicate (cell_of n) 0 ++ drop (cell_of n) cells → left (Ok (empty n)) after ≡ new_of n cells
   unfolding new_of new_by
-  new-made z after f = rw (← is-e, z, f)
+  new-made q after f = rw (← is-r, q, f)
 
 -- ---- a header is put
 
-pub put-room : (w : Window) (room : ℕ) (votes : List ℕ) → put_refusal w room votes ≡ 0 → Room w room
-unfolding put_refusal
-put-room w room votes e = room-is w room (first-zero _ (room_refusal w room) e).1
+module _ (w : Window) (room : ℕ) (votes : List ℕ) {r : Check} (is-r : r ≡ check_header_votes votes) where
+  pub header-stops : {e : Refusal} → r ≡ Err e → Err e ≡ check_put w room votes
+  unfolding check_put
+  header-stops q = sym (and-stop _ _ (sym is-r ∙ q))
 
-module _ (w : Window) (cells votes : List ℕ) (e : ℕ) (is-e : e ≡ put_refusal w (length cells) votes) where
-  pub put_refused : (e ≡ 0 → ⊥) → left (record { refusal = e; window = w }) cells ≡ put_of w cells votes
-  unfolding put_of put_by
-  put_refused h = go e h ∙ ap (λ (k : ℕ). put_by k w cells votes) is-e
-    where
-      go : (e : ℕ) → (e ≡ 0 → ⊥) → left (record { refusal = e; window = w }) cells ≡ put_by e w cells votes
-      go zero h = absurd (h refl)
-      go (suc k) h = refl
+  pub header-passes : r ≡ passed → check_room w room ≡ check_put w room votes
+  unfolding check_put
+  header-passes q = sym (and-pass _ _ (sym is-r ∙ q))
 
-  pub put-enters : e ≡ 0 → (v : Window) → v ≡ onward w → (at : ℕ) → at ≡ cell_of w.oldest → (after : List ℕ) → after ≡ entered cells at votes → left (record { refusal = 0; window = v }) after ≡ put_of w cells votes
+pub put-room : (w : Window) (room : ℕ) (votes : List ℕ) → check_put w room votes ≡ passed → Room w room
+unfolding check_put
+put-room w room votes e = room-is w room (and-passed _ (check_room w room) e).1
+
+module _ (w : Window) (cells votes : List ℕ) {r : Check} (is-r : r ≡ check_put w (length cells) votes) where
+  pub put_refused : {e : Refusal} → r ≡ Err e → left (Err e) cells ≡ put_of w cells votes
   unfolding put_of put_by
-  put-enters z v f at is_at after g = rw (← is-e, z, f, g, is_at)
+  put_refused q = rw (← is-r, q)
+
+  pub put-enters : r ≡ passed → (v : Window) → v ≡ onward w → (at : ℕ) → at ≡ cell_of w.oldest → (after : List ℕ) → after ≡ entered cells at votes → left (Ok v) after ≡ put_of w cells votes
+  unfolding put_of put_by
+  put-enters q v f at is_at after g = rw (← is-r, q, f, g, is_at)

@@ -4,6 +4,7 @@ use Rattle.std.proofs.Common.{◌≡◌, ℕ, zero, suc, ◌+◌, ◌*◌, ◌<�
 use borrow.Author.Tests.{eqb-false}
 use lib.ListN.{length-replicate, get_or-replicate, replicate-append-replicate, get_or-append}
 use Rattle.counting.specs.Count.{count}
+use Rattle.codec.specs.Check.{passed}
 use Rattle.voting.specs.Common.{Each, Bytes}
 use Rattle.voting.specs.Header.{check_header_votes, votes_for, AllLegal}
 use Rattle.voting.specs.Tally.{headers}
@@ -56,7 +57,7 @@ holds-round n cells bytes h =
 
 -- an accepted header
 abbrev pub Legal : List ℕ → Type 0
-Legal votes = IsHeader votes × (check_header_votes votes ≡ 0)
+Legal votes = IsHeader votes × (check_header_votes votes ≡ passed)
 
 three : (v : List ℕ) → length v ≡ 3 → v ≡ get_or v 0 0 ∷ get_or v 1 0 ∷ get_or v 2 0 ∷ []
 three [] e = absurd (omega arith)

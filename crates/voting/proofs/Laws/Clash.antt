@@ -2,13 +2,15 @@
 -- Assumes nothing.
 use Rattle.std.proofs.Common.{◌≡◌, ℕ, zero, suc, ◌+◌, ◌-◌, ◌%◌, ◌<◌, ◌≤◌, Bool, true, false, cond, not, ◌&&◌, ◌||◌, eqb, ltb, List, [], ◌∷◌, pos, negsuc, neg_ℤ, sym, refl, ap, ◌∙◌, true≢false, arith, ltb-false, ltb-true, lt-ltb, eq-eqb, ne_eqb, eqb-true}
 use borrow.Author.Tests.{eqb-false}
+use Rattle.std.specs.Prelude.{is_err}
+use Rattle.codec.specs.Check.{passed}
 use Rattle.codec.specs.Signed.{modulo, bits_of, signed_of}
 use Rattle.counting.specs.Count.{count}
-use Rattle.voting.specs.Common.{eq_z, first, Bytes}
-use Rattle.voting.specs.Header.{soft_fork_vote, votes_in, negation, fault, check_header_votes, votes_for}
-use Rattle.voting.proofs.Laws.Tests.{by-test, neither}
+use Rattle.voting.specs.Common.{eq_z, Bytes}
+use Rattle.voting.specs.Header.{soft_fork_vote, votes_in, negation, check_header_votes, votes_for}
+use Rattle.voting.proofs.Laws.Tests.{by-test, neither, by-answer, and-pass}
 use Rattle.voting.proofs.Laws.Integers.{eq_z-same}
-use Rattle.voting.proofs.Laws.Header.{negation-bits, negation-id, vote-fine, three-faults, few-votes, legal-few, legal-once, legal-apart}
+use Rattle.voting.proofs.Laws.Header.{byte-check, negation-bits, negation-id, vote-fine, three-checks, legal-few, legal-once, legal-apart}
 
 -- the byte of the negation of a vote
 negation-byte : (v : ℕ) → v < 256 → (v ≡ 0 → ⊥) → bits_of 8 (negation (signed_of 8 v)) ≡ 256 - v
@@ -58,7 +60,7 @@ one-most true = omega arith
 one-most false = omega arith
 
 -- a vote that is not there twice, and whose negation is not there
-vote-none : (v : ℕ) → v < 256 → (bs : List ℕ) → Bytes bs → ((v ≡ 0 → ⊥) → (count (eqb v) bs ≤ 1) × (count (eqb (256 - v)) bs ≡ 0)) → 0 ≡ cond (eqb v 0) 0 (fault (votes_in bs) (signed_of 8 v))
+vote-none : (v : ℕ) → v < 256 → (bs : List ℕ) → Bytes bs → ((v ≡ 0 → ⊥) → (count (eqb v) bs ≤ 1) × (count (eqb (256 - v)) bs ≡ 0)) → passed ≡ byte-check (votes_in bs) v
 vote-none v h bs small f =
     by-test (eqb v 0) (λ e. rw e)
     (λ e. let n = eqb-false v 0 e in vote-fine v h n bs small refl (f n).0 (sym (negation-byte v h n)) refl (omega (arith, (f n).1)))
@@ -84,14 +86,14 @@ none_of p q r s t u e =
 
 -- ---- the header is legal: no test says so
 -- a vote and the byte of its negation
-opposed : (bs : List ℕ) (v n : ℕ) → v < 256 → (v ≡ 0 → ⊥) → n ≡ 256 - v → check_header_votes bs ≡ 0 → 0 < count (eqb v) bs → count (eqb n) bs ≡ 0
+opposed : (bs : List ℕ) (v n : ℕ) → v < 256 → (v ≡ 0 → ⊥) → n ≡ 256 - v → check_header_votes bs ≡ passed → 0 < count (eqb v) bs → count (eqb n) bs ≡ 0
 unfolding votes_for
 opposed bs v n h d e legal k =
     let z = negation (signed_of 8 v) in
     let q = ap (signed_of 8) (e ∙ sym (negation-byte v h d)) ∙ negation-id (signed_of 8 v) in
     omega (arith, ltb-false 0 (count (eqb n) bs) (legal-apart bs v n d (λ w. omega arith) (ap (eq_z z) q ∙ eq_z-same z) legal (lt-ltb 0 (count (eqb v) bs) k)))
 
-module _ (bs : List ℕ) (legal : check_header_votes bs ≡ 0) (x : ℕ) (hx : x < 256) (there : 0 < count (eqb x) bs) where
+module _ (bs : List ℕ) (legal : check_header_votes bs ≡ passed) (x : ℕ) (hx : x < 256) (there : 0 < count (eqb x) bs) where
   legal-own : eqb x 128 ≡ false
   legal-own = ne_eqb x 128 (λ q. omega (arith, opposed bs x x hx (λ z. omega arith) (omega arith) legal there))
 
@@ -120,40 +122,41 @@ three-not false q r h = refl
 -- ---- both
 module _ (a b c : ℕ) (ha : a < 256) (hb : b < 256) (hc : c < 256) where
   legal-by : ((a ≡ 0 → ⊥) → Apart a b × Apart a c) → ((b ≡ 0 → ⊥) → Apart b c) → (a ≡ 128 → ⊥) → (b ≡ 128 → ⊥) → (c ≡ 128 → ⊥)
-      → count ordinary (a ∷ b ∷ c ∷ []) ≤ 2 → check_header_votes (a ∷ b ∷ c ∷ []) ≡ 0
-  unfolding count first
+      → count ordinary (a ∷ b ∷ c ∷ []) ≤ 2 → check_header_votes (a ∷ b ∷ c ∷ []) ≡ passed
+  unfolding count
   legal-by f g da db dc few =
       let small : Bytes (a ∷ b ∷ c ∷ []) = (ha, (hb, (hc, tt))) in
-      sym (three-faults (votes_in (a ∷ b ∷ c ∷ [])) a b c
-      (vote-none a ha (a ∷ b ∷ c ∷ []) small (λ n.
+      let va = vote-none a ha (a ∷ b ∷ c ∷ []) small (λ n.
       let p = (f n).0 in
       let q = (f n).1 in (
         omega (arith, one-most (eqb a a), no_one a b p.0, no_one a c q.0),
         omega (arith, no_one (256 - a) a (λ e. da (omega (arith, e))), no_one (256 - a) b (λ e. p.1 (omega (arith, e))), no_one (256 - a) c (λ e. q.1 (omega (arith, e)))),
-      )))
-      (vote-none b hb (a ∷ b ∷ c ∷ []) small (λ n.
+      )) in
+      let vb = vote-none b hb (a ∷ b ∷ c ∷ []) small (λ n.
       let p = apart-sym a b ha hb (λ z. (f z).0) n in
       let q = g n in (
         omega (arith, one-most (eqb b b), no_one b a p.0, no_one b c q.0),
         omega (arith, no_one (256 - b) b (λ e. db (omega (arith, e))), no_one (256 - b) a (λ e. p.1 (omega (arith, e))), no_one (256 - b) c (λ e. q.1 (omega (arith, e)))),
-      )))
-      (vote-none c hc (a ∷ b ∷ c ∷ []) small (λ n.
+      )) in
+      let vc = vote-none c hc (a ∷ b ∷ c ∷ []) small (λ n.
       let p = apart-sym a c ha hc (λ z. (f z).1) n in
       let q = apart-sym b c hb hc g n in (
         omega (arith, one-most (eqb c c), no_one c a p.0, no_one c b q.0),
         omega (arith, no_one (256 - c) c (λ e. dc (omega (arith, e))), no_one (256 - c) a (λ e. p.1 (omega (arith, e))), no_one (256 - c) b (λ e. q.1 (omega (arith, e)))),
-      )))
-      refl refl
-      ∙ few-votes (a ∷ b ∷ c ∷ []) refl few)
+      )) in
+      sym (vc
+      ∙ sym (and-pass _ _ (sym vb))
+      ∙ sym (and-pass _ _ (sym va))
+      ∙ three-checks a b c refl few)
 
   -- the whole test
   abbrev tests : Bool
   tests =
       ((((turned a (clash a b || clash a c) || turned b (clash b c)) || eqb a 128) || eqb b 128) || eqb c 128) || ((ordinary a && ordinary b) && ordinary c)
 
-  passed : tests ≡ false → check_header_votes (a ∷ b ∷ c ∷ []) ≡ 0
+  quiet-legal : tests ≡ false → check_header_votes (a ∷ b ∷ c ∷ []) ≡ passed
   unfolding count
-  passed e =
+  quiet-legal e =
       let t = none_of (turned a (clash a b || clash a c)) (turned b (clash b c)) (eqb a 128) (eqb b 128) (eqb c 128) ((ordinary a && ordinary b) && ordinary c) e in
       legal-by
       (λ n. let w = neither (clash a b) (clash a c) (guarded a (clash a b || clash a c) t.0 n) in (no-clash a b w.0, no-clash a c w.1))
@@ -161,9 +164,9 @@ module _ (a b c : ℕ) (ha : a < 256) (hb : b < 256) (hc : c < 256) where
       (eqb-false a 128 t.2) (eqb-false b 128 t.3) (eqb-false c 128 t.4)
       (not_three (ordinary a) (ordinary b) (ordinary c) t.5)
 
-  passes : check_header_votes (a ∷ b ∷ c ∷ []) ≡ 0 → tests ≡ false
+  legal-quiet : check_header_votes (a ∷ b ∷ c ∷ []) ≡ passed → tests ≡ false
   unfolding count
-  passes legal =
+  legal-quiet legal =
       let s = a ∷ b ∷ c ∷ [] in
       let ta : 0 < count (eqb a) s = omega (arith, one_same a a refl) in
       let tb : 0 < count (eqb b) s = omega (arith, one_same b b refl) in
@@ -182,9 +185,9 @@ module _ (a b c : ℕ) (ha : a < 256) (hb : b < 256) (hc : c < 256) where
 
   -- the tests as the code has them
   pub illegal-by : {k l m x y z : Bool} → k ≡ clash a b → l ≡ clash a c → m ≡ clash b c → x ≡ ordinary a → y ≡ ordinary b → z ≡ ordinary c
-      → (((((turned a (k || l) || turned b m) || eqb a 128) || eqb b 128) || eqb c 128) || ((x && y) && z)) ≡ not (eqb (check_header_votes (a ∷ b ∷ c ∷ [])) 0)
+      → (((((turned a (k || l) || turned b m) || eqb a 128) || eqb b 128) || eqb c 128) || ((x && y) && z)) ≡ is_err (check_header_votes (a ∷ b ∷ c ∷ []))
   illegal-by ek el em ex ey ez =
       rw (ek, el, em, ex, ey, ez)
-      (by-test (eqb (check_header_votes (a ∷ b ∷ c ∷ [])) 0)
-      (λ e. rw e (passes (eqb-true (check_header_votes (a ∷ b ∷ c ∷ [])) 0 e)))
-      (λ e. by-test tests (λ t. rw (e, t)) (λ t. absurd (eqb-false (check_header_votes (a ∷ b ∷ c ∷ [])) 0 e (passed t)))))
+      (by-answer (check_header_votes (a ∷ b ∷ c ∷ []))
+      (λ x e. rw e (legal-quiet e))
+      (λ x e. by-test tests (λ t. rw (e, t)) (λ t. let p = quiet-legal t in cc)))

@@ -7,24 +7,24 @@ use lib.Signed.{le_z}
 use mir.ValLaws.{to_z-of_z}
 use Rattle.voting.specs.declared.settings.VotingConfig.{VotingConfig}
 use Rattle.voting.specs.Value.{Value}
-use Rattle.std.specs.Prelude.{None, Some}
+use Rattle.std.specs.Prelude.{None, Some, Result, Ok, Err}
+use Rattle.std.specs.Option.{ok_or}
+use Rattle.codec.specs.declared.refusal.Refusal.{Refusal}
+use Rattle.codec.specs.declared.refusal.Refusal.TheVariants.{ForkVoteBarred, VotingLengthZero, SettingLarge, VotesCollectedAbsent, BlockVersionAbsent}
+use Rattle.codec.specs.Check.{Check, passed}
 use Rattle.voting.specs.declared.table.Fork.{Fork}
 use Rattle.voting.specs.declared.table.Table.{Table}
 use Rattle.voting.specs.declared.fork.Phase.{Phase}
 use Rattle.voting.specs.declared.fork.Round.{Round}
-use Rattle.voting.specs.declared.fork.Forked.{Forked}
 use Rattle.voting.specs.declared.fork.ForkPart.{ForkPart}
-use Rattle.voting.specs.declared.fork.ForkVote.{ForkVote}
-use Rattle.voting.specs.declared.fork.ForkVote.TheVariants.{Allowed, Barred, Refused}
 use Rattle.codec.specs.Signed.{signed_of, wrapped}
 use Rattle.codec.proofs.Laws.Signed.{wrapped-natural, wrapped-pos}
 use Rattle.voting.specs.Settings.{voting_length, vote_epochs, activation_epochs, version2_height, soft_fork_approved, settings_large}
 use Rattle.voting.specs.Table.{lookup, fork_entries}
 use Rattle.voting.specs.Header.{soft_fork_vote, votes_for}
-use Rattle.voting.specs.ForkCheck.{epochs_after, between, barred, check_round, check_fork_vote, fork_refusal, round_open, votes_open}
-use Rattle.voting.specs.ForkPart.{no_round, fork_refused, phase_at, fork_total, reads_total, closes_late, closes_early, restarts, rises, without, begun, collected, one_more, version_by, risen, five_steps, round_steps, forced, finished, running, by_start, fork_part}
+use Rattle.voting.specs.ForkCheck.{epochs_after, between, barred, check_round, check_fork_vote, round_open, votes_open}
+use Rattle.voting.specs.ForkPart.{no_round, phase_at, fork_total, reads_total, closes_late, closes_early, restarts, rises, without, begun, collected, one_more, version_by, risen, five_steps, round_steps, forced, finished, running, by_start, fork_part}
 use Rattle.voting.proofs.Laws.Integers.{at-exactly, at_most, at_least, below}
-use Rattle.voting.proofs.Laws.Tests.{gate-stop, gate-pass}
 
 -- a shifted height, as the code has it: the start is read back from its bits
 pub plain : (g : VotingConfig) (s : ℤ) (k r : ℕ) → SFits w32 s → pos r ≡ (to_z w32 (of_z w32 s) +ℤ pos (voting_length g * k)) +ℤ pos 2147483648 → pos r ≡ epochs_after g s k +ℤ pos 2147483648
@@ -51,35 +51,39 @@ phase-is g h s late early voting rising a b c d =
 -- ---- the fork check
 
 module _ (g : VotingConfig) (h : ℕ) (start votes : Value) where
-  pub round-none : start ≡ None → Allowed ≡ check_round g h start votes
+  pub round-none : start ≡ None → passed ≡ check_round g h start votes
   unfolding check_round
   round-none e = rw e
 
   module _ (s : ℤ) (is-s : start ≡ Some s) where
-    pub round-orphan : votes ≡ None → Refused 19 ≡ check_round g h start votes
+    pub round-orphan : (e : Refusal) → ok_or votes VotesCollectedAbsent ≡ Err e → Err e ≡ check_round g h start votes
     unfolding check_round
-    round-orphan e = rw (is-s, e)
+    round-orphan e q = go votes q ∙ ap (λ (v : Value). check_round g h v votes) (sym is-s)
+      where
+        go : (v : Value) → ok_or v VotesCollectedAbsent ≡ Err e → Err e ≡ check_round g h (Some s) v
+        go None q = let i : e ≡ VotesCollectedAbsent = cc in ap Err i
+        go (Some n) q = absurd cc
 
     module _ (n : ℤ) (is-n : votes ≡ Some n) (b : Bool) (is_b : b ≡ barred g h s n) where
-      pub round-barred : b ≡ true → Barred ≡ check_round g h start votes
+      pub round-barred : b ≡ true → Err ForkVoteBarred ≡ check_round g h start votes
       unfolding check_round
       round-barred e = rw (is-s, is-n, ← is_b, e)
 
-      pub round-allowed : b ≡ false → Allowed ≡ check_round g h start votes
+      pub round-allowed : b ≡ false → passed ≡ check_round g h start votes
       unfolding check_round
       round-allowed e = rw (is-s, is-n, ← is_b, e)
 
 module _ (g : VotingConfig) (h : ℕ) (votes : List ℕ) (t : Table) (large : Bool) (is-large : large ≡ settings_large g) where
-  pub check-large : large ≡ true → Refused 18 ≡ check_fork_vote g h votes t
+  pub check-large : large ≡ true → Err SettingLarge ≡ check_fork_vote g h votes t
   unfolding check_fork_vote
   check-large e = rw (← is-large, e)
 
   module _ (small : large ≡ false) (v : Bool) (is-v : v ≡ votes_for soft_fork_vote votes) where
-    pub check-silent : v ≡ false → Allowed ≡ check_fork_vote g h votes t
+    pub check-silent : v ≡ false → passed ≡ check_fork_vote g h votes t
     unfolding check_fork_vote
     check-silent e = rw (← is-large, small, ← is-v, e)
 
-    pub check-voting : v ≡ true → (r : ForkVote) → r ≡ check_round g h t.fork.start t.fork.votes → r ≡ check_fork_vote g h votes t
+    pub check-voting : v ≡ true → (r : Check) → r ≡ check_round g h t.fork.start t.fork.votes → r ≡ check_fork_vote g h votes t
     unfolding check_fork_vote lookup
     check-voting e r is-r = is-r ∙ sym (rw (← is-large, small, ← is-v, e))
 
@@ -111,18 +115,18 @@ unbarred : (g : VotingConfig) (end h : ℕ) (s n : ℤ) → le_z (pos end) (epoc
 unfolding barred between
 unbarred g end h s n e b = rw (not_yet end h (epochs_after g s (vote_epochs g)) e b)
 
-round-allows : (g : VotingConfig) (end h : ℕ) (start votes : Value) → round_open g end start votes ≡ true → h < end → fork_refusal (check_round g h start votes) ≡ 0
-unfolding round_open check_round fork_refusal
+round-allows : (g : VotingConfig) (end h : ℕ) (start votes : Value) → round_open g end start votes ≡ true → h < end → check_round g h start votes ≡ passed
+unfolding round_open check_round
 round-allows g end h None votes e b = refl
 round-allows g end h (Some s) None e b = absurd (true≢false (sym e))
 round-allows g end h (Some s) (Some n) e b = rw (unbarred g end h s n e b)
 
-pub open-allows : (g : VotingConfig) (end : ℕ) (t : Table) → votes_open g end t ≡ true → (h : ℕ) (votes : List ℕ) → h < end → fork_refusal (check_fork_vote g h votes t) ≡ 0
-unfolding votes_open check_fork_vote fork_refusal
+pub open-allows : (g : VotingConfig) (end : ℕ) (t : Table) → votes_open g end t ≡ true → (h : ℕ) (votes : List ℕ) → h < end → check_fork_vote g h votes t ≡ passed
+unfolding votes_open check_fork_vote
 open-allows g end t e h votes b = go (settings_large g) (votes_for soft_fork_vote votes) e
   where
     go : (large v : Bool) → (not large && round_open g end (lookup t 122) (lookup t 121)) ≡ true
-        → fork_refusal (cond large (Refused 18) (cond v (check_round g h (lookup t 122) (lookup t 121)) Allowed)) ≡ 0
+        → cond large (Err SettingLarge) (cond v (check_round g h (lookup t 122) (lookup t 121)) passed) ≡ passed
     go true v e = absurd (true≢false (sym e))
     go false true e = round-allows g end h (lookup t 122) (lookup t 121) e b
     go false false e = refl
@@ -139,66 +143,70 @@ begun-at opens h f z l is-z e = rw (e, is-z, wrapped-pos w32 h l)
 
 -- a version that is changed, or not
 module _ (next : ℤ → ℤ) (f : Fork) where
-  pub version-stays : (changes : Bool) → not changes ≡ true → record { refusal = 0; fork = f } ≡ version_by changes next f f.version
+  pub version-stays : (changes : Bool) → not changes ≡ true → Ok f ≡ version_by changes next f f.version
   unfolding version_by
   version-stays true e = absurd (false≢true e)
   version-stays false e = go f.version refl
     where
-      go : (v : Value) → f.version ≡ v → record { refusal = 0; fork = f } ≡ version_by false next f v
+      go : (v : Value) → f.version ≡ v → Ok f ≡ version_by false next f v
       go None q = refl
       go (Some z) q = rw (← q)
 
-  pub version-absent : (changes : Bool) → not changes ≡ false → f.version ≡ None → record { refusal = 20; fork = f } ≡ version_by changes next f f.version
+  pub version-absent : (changes : Bool) → not changes ≡ false → (d : Refusal) → ok_or f.version BlockVersionAbsent ≡ Err d → Err d ≡ version_by changes next f f.version
   unfolding version_by
-  version-absent true e q = sym (ap (version_by true next f) q)
-  version-absent false e q = absurd (true≢false e)
+  version-absent true e d q = go f.version q
+    where
+      go : (v : Value) → ok_or v BlockVersionAbsent ≡ Err d → Err d ≡ version_by true next f v
+      go None q = let i : d ≡ BlockVersionAbsent = cc in ap Err i
+      go (Some z) q = absurd cc
+  version-absent false e d q = absurd (true≢false e)
 
   pub version-next : (changes : Bool) → not changes ≡ false → (z n : ℤ) → f.version ≡ Some z → n ≡ next z
-      → record { refusal = 0; fork = fork_entries f.votes f.start (Some n) } ≡ version_by changes next f f.version
+      → Ok (fork_entries f.votes f.start (Some n)) ≡ version_by changes next f f.version
   unfolding version_by
-  version-next true e z n q is-n = ap {B = Forked} (λ (y : ℤ). record { refusal = 0; fork = fork_entries f.votes f.start (Some y) }) is-n ∙ sym (ap (version_by true next f) q)
+  version-next true e z n q is-n = ap {B = Result Fork Refusal} (λ (y : ℤ). Ok (fork_entries f.votes f.start (Some y))) is-n ∙ sym (ap (version_by true next f) q)
   version-next false e z n q is-n = absurd (true≢false e)
 
 -- the steps' entries and then the forced version
-module _ (g : VotingConfig) (h : ℕ) (old : Fork) (round : Round) (f : Forked) where
-  pub steps-stop : (f.refusal ≡ 0 → ⊥) → fork_refused old f.refusal ≡ finished g h old round f
+module _ (g : VotingConfig) (h : ℕ) (round : Round) (f : Result Fork Refusal) where
+  pub steps-stop : (e : Refusal) → f ≡ Err e → Err e ≡ finished g h round f
   unfolding finished
-  steps-stop d = gate-stop (fork_refused old) f.refusal _ d
+  steps-stop e q = rw q
 
-  module _ (z : f.refusal ≡ 0) (last : Forked) (is_last : last ≡ forced (eqb h (version2_height g)) f.fork) where
-    pub forced-stop : (last.refusal ≡ 0 → ⊥) → fork_refused old last.refusal ≡ finished g h old round f
+  module _ (stepped : Fork) (is-stepped : f ≡ Ok stepped) where
+    pub forced-stop : (e : Refusal) → forced (eqb h (version2_height g)) stepped ≡ Err e → Err e ≡ finished g h round f
     unfolding finished
-    forced-stop d = rw (← is_last) (gate-stop (fork_refused old) last.refusal _ d ∙ gate-pass (fork_refused old) f.refusal _ z)
+    forced-stop e q = rw (is-stepped, q)
 
-    pub forced-pass : last.refusal ≡ 0 → record { refusal = 0; fork = last.fork; round = round } ≡ finished g h old round f
+    pub forced-pass : (last : Fork) → forced (eqb h (version2_height g)) stepped ≡ Ok last → Ok (record { fork = last; round = round }) ≡ finished g h round f
     unfolding finished
-    forced-pass e = rw (← is_last) (gate-pass (fork_refused old) last.refusal _ e ∙ gate-pass (fork_refused old) f.refusal _ z)
+    forced-pass last q = rw (is-stepped, q)
 
 module _ (g : VotingConfig) (h : ℕ) (vote : Bool) (votes : ℕ) (old : Fork) (p : Phase) (collected : Value) where
-  pub running-orphan : collected ≡ None → reads_total p ≡ true → fork_refused old 19 ≡ running g h vote votes old p collected
+  pub running-orphan : collected ≡ None → reads_total p ≡ true → Err VotesCollectedAbsent ≡ running g h vote votes old p collected
   unfolding running
   running-orphan q e = rw (q, e)
 
-  pub running-unread : collected ≡ None → reads_total p ≡ false → finished g h old no_round (record { refusal = 0; fork = old }) ≡ running g h vote votes old p collected
+  pub running-unread : collected ≡ None → reads_total p ≡ false → finished g h no_round (Ok old) ≡ running g h vote votes old p collected
   unfolding running
   running-unread q e = rw (q, e)
 
-  pub running-on : (n total : ℤ) (approved : Bool) (round : Round) (f : Forked) → collected ≡ Some n → total ≡ fork_total votes n → approved ≡ soft_fork_approved g total
-      → round ≡ round_steps p vote approved total → f ≡ five_steps p vote approved total h old → finished g h old round f ≡ running g h vote votes old p collected
+  pub running-on : (n total : ℤ) (approved : Bool) (round : Round) (f : Result Fork Refusal) → collected ≡ Some n → total ≡ fork_total votes n → approved ≡ soft_fork_approved g total
+      → round ≡ round_steps p vote approved total → f ≡ five_steps p vote approved total h old → finished g h round f ≡ running g h vote votes old p collected
   unfolding running
   running-on n total approved round f q is-t is-a is-r is_f = rw (q, is-r, is_f, is-a, is-t)
 
 module _ (g : VotingConfig) (h : ℕ) (vote : Bool) (votes : ℕ) (old : Fork) where
-  pub part-zero : voting_length g ≡ 0 → fork_refused old 17 ≡ fork_part g h vote votes old
+  pub part-zero : voting_length g ≡ 0 → Err VotingLengthZero ≡ fork_part g h vote votes old
   unfolding fork_part
   part-zero e = rw (eq-eqb (voting_length g) 0 e)
 
   module _ (some : voting_length g ≡ 0 → ⊥) (large : Bool) (is-large : large ≡ settings_large g) where
-    pub part-large : large ≡ true → fork_refused old 18 ≡ fork_part g h vote votes old
+    pub part-large : large ≡ true → Err SettingLarge ≡ fork_part g h vote votes old
     unfolding fork_part
     part-large e = rw (ne_eqb (voting_length g) 0 some, ← is-large, e)
 
-    pub part_by : large ≡ false → (start : Value) → old.start ≡ start → (r : ForkPart) → r ≡ by_start g h vote votes old start → r ≡ fork_part g h vote votes old
+    pub part_by : large ≡ false → (start : Value) → old.start ≡ start → (r : Result ForkPart Refusal) → r ≡ by_start g h vote votes old start → r ≡ fork_part g h vote votes old
     unfolding fork_part
     part_by e start is-s r is-r = is-r ∙ ap (by_start g h vote votes old) (sym is-s) ∙ sym (rw (ne_eqb (voting_length g) 0 some, ← is-large, e))
 
@@ -222,24 +230,11 @@ collected-is false total votes start version = refl
 
 pub steps-are : (p : Phase) (vote approved : Bool) (total : ℤ) (h : ℕ) (votes start : Value) (z : ℤ)
     → five_steps p vote approved total h (fork_entries votes start (Some z))
-    ≡ record {
-      refusal = 0;
-      fork = fork_entries
-          (cond p.voting (Some total) (cond (restarts p vote approved) (Some (pos 0)) (cond (closes_early p approved) None (cond (closes_late p approved) None votes))))
-          (cond (restarts p vote approved) (Some (wrapped 32 (pos h))) (cond (closes_early p approved) None (cond (closes_late p approved) None start)))
-          (Some (cond (rises p approved) (one_more z) z));
-    }
+    ≡ Ok
+    (fork_entries
+    (cond p.voting (Some total) (cond (restarts p vote approved) (Some (pos 0)) (cond (closes_early p approved) None (cond (closes_late p approved) None votes))))
+    (cond (restarts p vote approved) (Some (wrapped 32 (pos h))) (cond (closes_early p approved) None (cond (closes_late p approved) None start)))
+    (Some (cond (rises p approved) (one_more z) z)))
 unfolding five_steps risen version_by
 steps-are p vote approved total h votes start z =
     rw (without_is (closes_late p approved) votes start (Some z), without_is (closes_early p approved), begun-is (restarts p vote approved) h, collected-is p.voting total)
-
--- a fork check that turns nobody down allows
-pub allowed : (g : VotingConfig) (h : ℕ) (start votes : Value) → fork_refusal (check_round g h start votes) ≡ 0 → check_round g h start votes ≡ Allowed
-unfolding check_round fork_refusal
-allowed g h None votes e = refl
-allowed g h (Some s) None e = absurd (omega arith)
-allowed g h (Some s) (Some n) e = go (barred g h s n) e
-  where
-    go : (b : Bool) → fork_refusal (cond b Barred Allowed) ≡ 0 → cond b Barred Allowed ≡ Allowed
-    go true e = absurd (omega arith)
-    go false e = refl

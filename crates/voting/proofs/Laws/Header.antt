@@ -1,21 +1,18 @@
 -- Votes of a header: ids against bytes, how often they are there, and what a legal header has.
 -- Assumes nothing.
-use Rattle.std.proofs.Common.{◌≡◌, ℕ, zero, suc, ◌+◌, ◌-◌, ◌<◌, ◌≤◌, Bool, true, false, cond, not, ◌&&◌, eqb, ltb, List, [], ◌∷◌, ℤ, pos, negsuc, neg_ℤ, sym, refl, ap, ◌∙◌, subst, arith, w8, ltb-false, ltb-true, le-ltb, lt-ltb, ne_eqb, eqb-true}
+use Rattle.std.proofs.Common.{Ok, Err, ◌≡◌, ℕ, zero, suc, ◌+◌, ◌-◌, ◌<◌, ◌≤◌, Bool, true, false, cond, not, ◌&&◌, eqb, ltb, List, [], ◌∷◌, ℤ, pos, negsuc, neg_ℤ, sym, refl, ap, ◌∙◌, subst, arith, w8, ltb-false, ltb-true, le-ltb, lt-ltb, ne_eqb, eqb-true}
 use borrow.Author.Tests.{eqb-false}
-use Rattle.codec.specs.Refusal.{too_many_votes, repeated_vote, contradictory_vote}
+use Rattle.codec.specs.declared.refusal.Refusal.TheVariants.{TooManyVotes, RepeatedVote, ContradictoryVote}
+use Rattle.std.specs.Result.{result_and}
+use Rattle.codec.specs.Check.{Check, passed}
 use Rattle.codec.specs.Signed.{modulo, bits_of, signed_of, wrapped}
 use Rattle.codec.proofs.Laws.Signed.{signed_back}
 use Rattle.counting.specs.Count.{count}
-use Rattle.voting.specs.Common.{eq_z, first, Each, Bytes}
-use Rattle.voting.proofs.Laws.Tests.{eqb_comm}
+use Rattle.voting.specs.Common.{eq_z, Each, Bytes}
+use Rattle.voting.proofs.Laws.Tests.{eqb_comm, and-passed}
 use Rattle.voting.proofs.Laws.Integers.{eq_z-same, ne-eq_z, eq_z-comm}
 use Rattle.voting.proofs.Laws.Each.{each}
 use Rattle.voting.specs.Header.{soft_fork_vote, votes_in, negation, ordinary_vote, fault, fault_in, check_votes, check_header_votes, votes_for}
-
--- how often something is among three
-pub count-three : {A : Type 0} (p : A → Bool) (a b c : A) {x y z : ℕ} → x ≡ cond (p a) 1 0 → y ≡ cond (p b) 1 0 → z ≡ cond (p c) 1 0 → x + y + z ≡ count p (a ∷ b ∷ c ∷ [])
-unfolding count
-count-three p a b c e f g = omega (arith, e, f, g)
 
 -- of all these bytes only v has the id of v
 abbrev pub Alike : ℕ → List ℕ → Type 0
@@ -112,99 +109,95 @@ negation-ids v h n bs small =
     ap (λ (z : ℤ). count (eq_z z) (votes_in bs)) (sym (negation-id (signed_of 8 v))) ∙
     times-ids m (negation-vote v h n) bs (alike-bytes m (bits_small (negation (signed_of 8 v))) bs small)
 
--- the fault of a vote, by what is found among the bytes
-fault-by : (v : ℕ) → v < 256 → (v ≡ 0 → ⊥) → (bs : List ℕ) → Bytes bs → (s t : Bool) → ltb 1 (count (eqb v) bs) ≡ s → ltb 0 (count (eqb (bits_of 8 (negation (signed_of 8 v)))) bs) ≡ t → cond s repeated_vote (cond t contradictory_vote 0) ≡ cond (eqb v 0) 0 (fault (votes_in bs) (signed_of 8 v))
+-- the check of a byte: nothing is wrong with one that is no vote
+abbrev pub byte-check : List ℤ → ℕ → Check
+byte-check all v = cond (eqb v 0) passed (fault all (signed_of 8 v))
+
+-- by whether the vote is repeated, and whether its negation is there
+abbrev judged : (repeated contradictory : Bool) → Check
+judged s t = cond s (Err RepeatedVote) (cond t (Err ContradictoryVote) passed)
+
+-- the check of a vote, by what is found among the bytes
+fault-by : (v : ℕ) → v < 256 → (v ≡ 0 → ⊥) → (bs : List ℕ) → Bytes bs → (s t : Bool) → ltb 1 (count (eqb v) bs) ≡ s → ltb 0 (count (eqb (bits_of 8 (negation (signed_of 8 v)))) bs) ≡ t → judged s t ≡ byte-check (votes_in bs) v
 unfolding fault
 fault-by v h n bs small s t p q = rw (ne_eqb v 0 n, times-ids v n bs (alike-bytes v h bs small), negation-ids v h n bs small, p, q)
 
 -- the ways out of a vote's test; t is how often the vote is there, m the byte of its negation, and u how often that is there
 module _ (v : ℕ) (h : v < 256) (n : v ≡ 0 → ⊥) (bs : List ℕ) (small : Bytes bs) {t : ℕ} (is-t : t ≡ count (eqb v) bs) where
-  pub vote-repeated : 1 < t → repeated_vote ≡ cond (eqb v 0) 0 (fault (votes_in bs) (signed_of 8 v))
+  pub vote-repeated : 1 < t → Err RepeatedVote ≡ byte-check (votes_in bs) v
   vote-repeated k = fault-by v h n bs small true _ (ap (ltb 1) (sym is-t) ∙ lt-ltb 1 t k) refl
 
   module _ (k : t ≤ 1) {m u : ℕ} (is_m : m ≡ bits_of 8 (negation (signed_of 8 v))) (is-u : u ≡ count (eqb m) bs) where
-    vote-alone : (r : Bool) → ltb 0 u ≡ r → cond r contradictory_vote 0 ≡ cond (eqb v 0) 0 (fault (votes_in bs) (signed_of 8 v))
+    vote-alone : (r : Bool) → ltb 0 u ≡ r → judged false r ≡ byte-check (votes_in bs) v
     vote-alone r e = fault-by v h n bs small false r (ap (ltb 1) (sym is-t) ∙ le-ltb 1 t k) (ap (λ (b : ℕ). ltb 0 (count (eqb b) bs)) (sym is_m) ∙ ap (ltb 0) (sym is-u) ∙ e)
 
-    pub vote-opposed : 0 < u → contradictory_vote ≡ cond (eqb v 0) 0 (fault (votes_in bs) (signed_of 8 v))
+    pub vote-opposed : 0 < u → Err ContradictoryVote ≡ byte-check (votes_in bs) v
     vote-opposed l = vote-alone true (lt-ltb 0 u l)
 
-    pub vote-fine : u ≤ 0 → 0 ≡ cond (eqb v 0) 0 (fault (votes_in bs) (signed_of 8 v))
+    pub vote-fine : u ≤ 0 → passed ≡ byte-check (votes_in bs) v
     vote-fine l = vote-alone false (le-ltb 0 u l)
 
--- the first of two refusals
-pub first-pass : (n m : ℕ) → n ≡ 0 → first n m ≡ m
-unfolding first
-first-pass n m e = rw e
-
-pub first-stop : (n m : ℕ) → (n ≡ 0 → ⊥) → first n m ≡ n
-unfolding first
-first-stop zero m h = absurd (h refl)
-first-stop (suc n) m h = refl
-
-first-none : (n : ℕ) → first n 0 ≡ n
-unfolding first
-first-none zero = refl
-first-none (suc n) = refl
-
--- the faults of votes, byte by byte: a byte that is no vote has none
-no-votes : (all : List ℤ) → fault_in all (votes_in []) ≡ 0
+-- the faults of votes, byte by byte
+no-votes : (all : List ℤ) → fault_in all (votes_in []) ≡ passed
 unfolding fault_in votes_in
 no-votes all = refl
 
-fault-cons : (all : List ℤ) (b : ℕ) (bs : List ℕ) → fault_in all (votes_in (b ∷ bs)) ≡ first (cond (eqb b 0) 0 (fault all (signed_of 8 b))) (fault_in all (votes_in bs))
-unfolding fault_in votes_in first
+fault-cons : (all : List ℤ) (b : ℕ) (bs : List ℕ) → fault_in all (votes_in (b ∷ bs)) ≡ result_and (byte-check all b) (fault_in all (votes_in bs))
+unfolding fault_in votes_in
 fault-cons all b bs = go (eqb b 0)
   where
-    go : (t : Bool) → fault_in all (cond t (votes_in bs) (signed_of 8 b ∷ votes_in bs)) ≡ first (cond t 0 (fault all (signed_of 8 b))) (fault_in all (votes_in bs))
+    go : (t : Bool) → fault_in all (cond t (votes_in bs) (signed_of 8 b ∷ votes_in bs)) ≡ result_and (cond t passed (fault all (signed_of 8 b))) (fault_in all (votes_in bs))
     go true = refl
     go false = refl
 
 -- the judgement of a header, by what is found among the bytes
 module _ (bs : List ℕ) {n : ℕ} (is-n : n ≡ count (λ b. not (eqb b 0) && not (eqb b soft_fork_vote)) bs) where
-  pub many-votes : 2 < n → too_many_votes ≡ check_header_votes bs
+  pub many-votes : 2 < n → Err TooManyVotes ≡ check_header_votes bs
   unfolding check_header_votes check_votes
   many-votes h = rw (ordinary-ids bs, ← is-n, lt-ltb 2 n h)
 
-  pub few-votes : n ≤ 2 → fault_in (votes_in bs) (votes_in bs) ≡ check_header_votes bs
+  few-votes : n ≤ 2 → fault_in (votes_in bs) (votes_in bs) ≡ check_header_votes bs
   unfolding check_header_votes check_votes
   few-votes h = rw (ordinary-ids bs, ← is-n, le-ltb 2 n h)
 
-pub three-faults : (all : List ℤ) (a b c : ℕ) {x y z u r : ℕ} → x ≡ cond (eqb a 0) 0 (fault all (signed_of 8 a)) → y ≡ cond (eqb b 0) 0 (fault all (signed_of 8 b)) → z ≡ cond (eqb c 0) 0 (fault all (signed_of 8 c)) → u ≡ first y z → r ≡ first x u → r ≡ fault_in all (votes_in (a ∷ b ∷ c ∷ []))
-three-faults all a b c p q s t w =
-    rw (fault-cons all a (b ∷ c ∷ []), fault-cons all b (c ∷ []), fault-cons all c [], no-votes all, first-none (cond (eqb c 0) 0 (fault all (signed_of 8 c))), ← p, ← q, ← s, ← t) w
+last-check : (r : Check) → result_and r passed ≡ r
+last-check (Ok x) = refl
+last-check (Err e) = refl
+
+-- few votes, so the three bytes in order
+module _ (a b c : ℕ) {n : ℕ} (is-n : n ≡ count (λ b. not (eqb b 0) && not (eqb b soft_fork_vote)) (a ∷ b ∷ c ∷ [])) (few : n ≤ 2) where
+  pub three-checks : result_and (byte-check (votes_in (a ∷ b ∷ c ∷ [])) a) (result_and (byte-check (votes_in (a ∷ b ∷ c ∷ [])) b) (byte-check (votes_in (a ∷ b ∷ c ∷ [])) c)) ≡ check_header_votes (a ∷ b ∷ c ∷ [])
+  three-checks =
+      let all = votes_in (a ∷ b ∷ c ∷ []) in
+      rw (fault-cons all a (b ∷ c ∷ []), fault-cons all b (c ∷ []), fault-cons all c [], no-votes all, last-check (byte-check all c)) at
+      (few-votes (a ∷ b ∷ c ∷ []) is-n few)
 
 -- Legal headers
-pub first-zero : (n m : ℕ) → first n m ≡ 0 → (n ≡ 0) × (m ≡ 0)
-unfolding first
-first-zero zero m e = (refl, e)
-first-zero (suc n) m e = absurd (omega arith)
-
-legal-faults : (bs : List ℕ) → check_header_votes bs ≡ 0 → fault_in (votes_in bs) (votes_in bs) ≡ 0
+legal-faults : (bs : List ℕ) → check_header_votes bs ≡ passed → fault_in (votes_in bs) (votes_in bs) ≡ passed
 unfolding check_header_votes check_votes
 legal-faults bs = go (ltb 2 (count ordinary_vote (votes_in bs)))
   where
-    go : (t : Bool) → cond t too_many_votes (fault_in (votes_in bs) (votes_in bs)) ≡ 0 → fault_in (votes_in bs) (votes_in bs) ≡ 0
-    go true e = absurd (omega arith)
+    go : (t : Bool) → cond t (Err TooManyVotes) (fault_in (votes_in bs) (votes_in bs)) ≡ passed → fault_in (votes_in bs) (votes_in bs) ≡ passed
+    go true e = cc
     go false e = e
 
 -- it has no more than two ordinary votes
-pub legal-few : (bs : List ℕ) → check_header_votes bs ≡ 0 → count (λ b. not (eqb b 0) && not (eqb b soft_fork_vote)) bs ≤ 2
+pub legal-few : (bs : List ℕ) → check_header_votes bs ≡ passed → count (λ b. not (eqb b 0) && not (eqb b soft_fork_vote)) bs ≤ 2
 legal-few bs e = go (ltb 2 (count (λ b. not (eqb b 0) && not (eqb b soft_fork_vote)) bs)) refl
   where
     go : (t : Bool) → ltb 2 (count (λ b. not (eqb b 0) && not (eqb b soft_fork_vote)) bs) ≡ t → count (λ b. not (eqb b 0) && not (eqb b soft_fork_vote)) bs ≤ 2
-    go true k = absurd (omega (arith, many-votes bs refl (ltb-true _ _ k), e))
+    go true k = let m = many-votes bs refl (ltb-true _ _ k) in cc
     go false k = ltb-false _ _ k
 
 -- a vote of the bytes has no fault where none of them has
-vote-faults : (all : List ℤ) (v : ℕ) → (v ≡ 0 → ⊥) → (bs : List ℕ) → fault_in all (votes_in bs) ≡ 0 → 0 < count (eqb v) bs → fault all (signed_of 8 v) ≡ 0
+vote-faults : (all : List ℤ) (v : ℕ) → (v ≡ 0 → ⊥) → (bs : List ℕ) → fault_in all (votes_in bs) ≡ passed → 0 < count (eqb v) bs → fault all (signed_of 8 v) ≡ passed
 unfolding count
 vote-faults all v n [] e h = absurd (omega arith)
 vote-faults all v n (b ∷ bs) e h =
-    let f = first-zero (cond (eqb b 0) 0 (fault all (signed_of 8 b))) (fault_in all (votes_in bs)) (sym (fault-cons all b bs) ∙ e) in
+    let f = and-passed (byte-check all b) (fault_in all (votes_in bs)) (sym (fault-cons all b bs) ∙ e) in
     go (eqb v b) refl f.0 h (vote-faults all v n bs f.1)
   where
-    go : (t : Bool) → eqb v b ≡ t → cond (eqb b 0) 0 (fault all (signed_of 8 b)) ≡ 0 → 0 < cond t 1 0 + count (eqb v) bs → (0 < count (eqb v) bs → fault all (signed_of 8 v) ≡ 0) → fault all (signed_of 8 v) ≡ 0
+    go : (t : Bool) → eqb v b ≡ t → byte-check all b ≡ passed → 0 < cond t 1 0 + count (eqb v) bs → (0 < count (eqb v) bs → fault all (signed_of 8 v) ≡ passed) → fault all (signed_of 8 v) ≡ passed
     go true e g h k =
         let q : v ≡ b = eqb-true v b e in
         ap (λ (x : ℕ). fault all (signed_of 8 x)) q ∙ (rw (ne_eqb b 0 (λ z. n (q ∙ z))) at g)
@@ -224,17 +217,17 @@ votes-most p v n e (b ∷ bs) =
         rw (ne_eqb b 0 (λ z. n (q ∙ z)), ← q, e) (omega arith)
     go false k ih = omega arith
 
-fault-none : (all : List ℤ) (z : ℤ) → fault all z ≡ 0 → (count (eq_z z) all ≤ 1) × (count (eq_z (negation z)) all ≤ 0)
+fault-none : (all : List ℤ) (z : ℤ) → fault all z ≡ passed → (count (eq_z z) all ≤ 1) × (count (eq_z (negation z)) all ≤ 0)
 unfolding fault
 fault-none all z = go (ltb 1 (count (eq_z z) all)) (ltb 0 (count (eq_z (negation z)) all)) refl refl
   where
-    go : (s t : Bool) → ltb 1 (count (eq_z z) all) ≡ s → ltb 0 (count (eq_z (negation z)) all) ≡ t → cond s repeated_vote (cond t contradictory_vote 0) ≡ 0 → (count (eq_z z) all ≤ 1) × (count (eq_z (negation z)) all ≤ 0)
-    go true t p q e = absurd (omega arith)
-    go false true p q e = absurd (omega arith)
+    go : (s t : Bool) → ltb 1 (count (eq_z z) all) ≡ s → ltb 0 (count (eq_z (negation z)) all) ≡ t → judged s t ≡ passed → (count (eq_z z) all ≤ 1) × (count (eq_z (negation z)) all ≤ 0)
+    go true t p q e = cc
+    go false true p q e = cc
     go false false p q e = (ltb-false 1 (count (eq_z z) all) p, ltb-false 0 (count (eq_z (negation z)) all) q)
 
 -- a vote is there at most once
-pub legal-once : (bs : List ℕ) (v : ℕ) → (v ≡ 0 → ⊥) → check_header_votes bs ≡ 0 → count (eqb v) bs ≤ 1
+pub legal-once : (bs : List ℕ) (v : ℕ) → (v ≡ 0 → ⊥) → check_header_votes bs ≡ passed → count (eqb v) bs ≤ 1
 legal-once bs v n e = go (ltb 0 (count (eqb v) bs)) refl
   where
     go : (t : Bool) → ltb 0 (count (eqb v) bs) ≡ t → count (eqb v) bs ≤ 1
@@ -245,7 +238,7 @@ legal-once bs v n e = go (ltb 0 (count (eqb v) bs)) refl
     go false k = let m = ltb-false 0 (count (eqb v) bs) k in omega arith
 
 -- and never beside its negation
-pub legal-apart : (bs : List ℕ) (v n : ℕ) → (v ≡ 0 → ⊥) → (n ≡ 0 → ⊥) → eq_z (negation (signed_of 8 v)) (signed_of 8 n) ≡ true → check_header_votes bs ≡ 0 → votes_for v bs ≡ true → votes_for n bs ≡ false
+pub legal-apart : (bs : List ℕ) (v n : ℕ) → (v ≡ 0 → ⊥) → (n ≡ 0 → ⊥) → eq_z (negation (signed_of 8 v)) (signed_of 8 n) ≡ true → check_header_votes bs ≡ passed → votes_for v bs ≡ true → votes_for n bs ≡ false
 unfolding votes_for
 legal-apart bs v n hv hn z e k =
     let f = fault-none (votes_in bs) (signed_of 8 v) (vote-faults (votes_in bs) v hv bs (legal-faults bs e) (ltb-true 0 (count (eqb v) bs) k)) in

@@ -1,31 +1,31 @@
 -- A tally in another order: the votes, the count for the fork, and the boundary.
 -- Assumes nothing.
-use Rattle.std.proofs.Common.{◌≡◌, ℕ, zero, suc, ◌<◌, Bool, true, false, cond, ◌&&◌, eqb, ◌⊎◌, List, ◌∷◌, ℤ, pos, negsuc, sym, refl, ap, ◌∙◌, subst, subst₂, inl, inr, arith, w8, ne_eqb}
+use Rattle.std.proofs.Common.{◌≡◌, ℕ, suc, ◌<◌, Bool, true, false, cond, ◌&&◌, List, ◌∷◌, ℤ, pos, negsuc, sym, refl, ap, ◌∙◌, subst, subst₂, inl, inr, arith, w8}
 use mathlib.Core.List.{Permᴰ}
-use Rattle.codec.specs.Refusal.{unknown_parameter, absent_parameter}
+use Rattle.codec.specs.declared.refusal.Refusal.TheVariants.{UnknownParameter, AbsentParameter}
 use Rattle.codec.proofs.Laws.Signed.{wraps-to}
 use Rattle.voting.specs.declared.settings.VotingConfig.{VotingConfig}
 use Rattle.voting.specs.Value.{Value}
-use Rattle.std.specs.Prelude.{Some}
+use Rattle.std.specs.Prelude.{Some, Result, Ok, Err}
+use Rattle.codec.specs.declared.refusal.Refusal.{Refusal}
+use Rattle.codec.specs.Check.{and_then}
 use Rattle.voting.specs.declared.table.Table.{Table}
 use Rattle.voting.specs.declared.tally.Entry.{Entry}
-use Rattle.voting.specs.declared.fork.Round.{Round}
 use Rattle.voting.specs.declared.fork.ForkPart.{ForkPart}
-use Rattle.voting.specs.declared.ordinary.Voted.{Voted}
 use Rattle.voting.specs.declared.boundary.Boundary.{Boundary}
-use Rattle.voting.specs.Common.{eq_z, gate, Each, Pairwise}
+use Rattle.voting.specs.Common.{eq_z, Each, Pairwise}
 use Rattle.voting.specs.Table.{with_fork, update}
 use Rattle.voting.specs.Header.{negation, soft_fork_vote}
 use Rattle.voting.specs.Tally.{first_count}
 use Rattle.voting.specs.ForkPart.{fork_part}
-use Rattle.voting.specs.Ordinary.{parameter, moved, known, passes, stops, onward, voted, ordinary_votes}
-use Rattle.voting.specs.Boundary.{refuses, with_subblocks, boundary_of}
-use Rattle.voting.specs.Order.{Compatible, Consistent, NoParameter, SameRefusal}
+use Rattle.voting.specs.Ordinary.{parameter, moved, known, voted, ordinary_votes}
+use Rattle.voting.specs.Boundary.{with_subblocks, boundary_of}
+use Rattle.voting.specs.Order.{Compatible, Consistent, NoParameter, Alike}
 use Rattle.voting.proofs.Laws.Integers.{eq_z-true}
 use Rattle.voting.proofs.Laws.Each.{pairwise}
 use Rattle.voting.proofs.Laws.Table.{known-range, update_comm}
 use Rattle.voting.proofs.Laws.Ordinary.{by-vote}
-use Rattle.voting.proofs.Laws.Tests.{gate-stop}
+use Rattle.voting.proofs.Laws.Tests.{then-stop, then-pass}
 
 -- ---- statements of every two elements, in another order
 
@@ -87,14 +87,14 @@ abbrev written : {id : ℤ} → Write id → Table → Table
 written nothing t = t
 written {id} (one v k) t = update t (parameter id) v
 
-data Act (id : ℤ) (f : Table → Voted) : Type 0 where
-  goes : (w : Write id) → ((t : Table) → f t ≡ passes (written w t)) → Act id f
-  halts : (n : ℕ) → NoParameter n → ((t : Table) → f t ≡ stops t n) → Act id f
+data Act (id : ℤ) (f : Table → Result Table Refusal) : Type 0 where
+  goes : (w : Write id) → ((t : Table) → f t ≡ Ok (written w t)) → Act id f
+  halts : (n : Refusal) → NoParameter n → ((t : Table) → f t ≡ Err n) → Act id f
 
 act : (g : VotingConfig) (from : Table) (e : Entry) → Act e.id (voted g from e)
 act g from e =
-    by-vote (Act e.id) g from e (λ c. goes nothing (λ t. refl)) (λ c k. halts unknown_parameter (inl refl) (λ t. refl))
-    (λ c k l. halts absent_parameter (inr refl) (λ t. refl)) (λ z c k l. goes (one (Some (moved e.id z)) k) (λ t. refl))
+    by-vote (Act e.id) g from e (λ c. goes nothing (λ t. refl)) (λ c k. halts UnknownParameter (inl refl) (λ t. refl))
+    (λ c k l. halts AbsentParameter (inr refl) (λ t. refl)) (λ z c k l. goes (one (Some (moved e.id z)) k) (λ t. refl))
 
 -- two entries that write two parameters, in either order
 writes-comm : (a b : Entry) → Separate a b → (w : Write a.id) (u : Write b.id) (t : Table) → written u (written w t) ≡ written w (written u t)
@@ -104,82 +104,84 @@ writes-comm a b s (one v k) (one y l) t = update_comm t (parameter a.id) (parame
 
 -- ---- the votes
 
-pub not-zero : (n : ℕ) → NoParameter n → n ≡ 0 → ⊥
-not-zero n (inl p) q = omega arith
-not-zero n (inr p) q = omega arith
+module _ {A : Type 0} where
+  pub alike_equal : (u v : Result A Refusal) → u ≡ v → Alike u v
+  alike_equal (Ok x) v e = subst (Alike (Ok x)) e refl
+  alike_equal (Err d) v e = subst (Alike (Err d)) e (inl refl)
 
--- equal, or each refused by 13 or 14
-abbrev SameVotes : Voted → Voted → Type 0
-SameVotes v w = (v ≡ w) ⊎ (NoParameter v.refusal × NoParameter w.refusal)
+  pub alike_halted : (u v : Result A Refusal) (n m : Refusal) → NoParameter n → NoParameter m → u ≡ Err n → v ≡ Err m → Alike u v
+  alike_halted u v n m p q d e = rw (d, e) (inr (p, q))
 
-same_then : (u v w : Voted) → SameVotes u v → SameVotes v w → SameVotes u w
-same_then u v w (inl p) (inl q) = inl (p ∙ q)
-same_then u v w (inl p) (inr q) = inr (subst (λ (x : Voted). NoParameter x.refusal) (sym p) q.0, q.1)
-same_then u v w (inr p) (inl q) = inr (p.0, subst (λ (x : Voted). NoParameter x.refusal) q p.1)
-same_then u v w (inr p) (inr q) = inr (p.0, q.1)
+  pub alike_then : (u v w : Result A Refusal) → Alike u v → Alike v w → Alike u w
+  alike_then (Ok x) (Ok y) (Ok z) p q = p ∙ q
+  alike_then (Ok x) (Ok y) (Err e) p q = absurd q
+  alike_then (Ok x) (Err e) w p q = absurd p
+  alike_then (Err d) (Ok y) w p q = absurd p
+  alike_then (Err d) (Err e) (Ok z) p q = absurd q
+  alike_then (Err d) (Err e) (Err h) (inl p) (inl q) = inl (p ∙ q)
+  alike_then (Err d) (Err e) (Err h) (inl p) (inr q) = inr (subst NoParameter (sym p) q.0, q.1)
+  alike_then (Err d) (Err e) (Err h) (inr p) (inl q) = inr (p.0, subst NoParameter q p.1)
+  alike_then (Err d) (Err e) (Err h) (inr p) (inr q) = inr (p.0, q.1)
+
+-- what follows alike answers is alike
+pub then-alike : {A B : Type 0} (u v : Result A Refusal) (k l : A → Result B Refusal) → Alike u v → ((x : A) → Alike (k x) (l x)) → Alike (and_then u k) (and_then v l)
+then-alike (Ok x) (Ok y) k l p h = subst (λ z. Alike (k x) (l z)) p (h x)
+then-alike (Ok x) (Err e) k l p h = absurd p
+then-alike (Err d) (Ok y) k l p h = absurd p
+then-alike (Err d) (Err e) k l p h = p
 
 module _ (g : VotingConfig) (from : Table) where
   -- an entry that goes on, and one that is refused
-  head-goes : (e : Entry) (es : List Entry) (new t : Table) → voted g from e new ≡ passes t → ordinary_votes g from (e ∷ es) new ≡ ordinary_votes g from es t
-  unfolding ordinary_votes onward
-  head-goes e es new t p = ap (λ (v : Voted). cond (eqb v.refusal 0) (ordinary_votes g from es v.table) v) p
+  head-goes : (e : Entry) (es : List Entry) (new t : Table) → voted g from e new ≡ Ok t → ordinary_votes g from (e ∷ es) new ≡ ordinary_votes g from es t
+  unfolding ordinary_votes
+  head-goes e es new t p = then-pass (voted g from e new) (ordinary_votes g from es) p
 
-  head-halts : (e : Entry) (es : List Entry) (new : Table) (n : ℕ) → NoParameter n → voted g from e new ≡ stops new n → ordinary_votes g from (e ∷ es) new ≡ stops new n
-  unfolding ordinary_votes onward
-  head-halts e es new n u p = rw (p, ne_eqb n 0 (not-zero n u))
+  head-halts : (e : Entry) (es : List Entry) (new : Table) (n : Refusal) → voted g from e new ≡ Err n → ordinary_votes g from (e ∷ es) new ≡ Err n
+  unfolding ordinary_votes
+  head-halts e es new n p = then-stop (voted g from e new) (ordinary_votes g from es) p
 
   -- one entry before two lists
-  head-same : (e : Entry) (xs ys : List Entry) (new : Table) → ((t : Table) → SameVotes (ordinary_votes g from xs t) (ordinary_votes g from ys t))
-      → SameVotes (ordinary_votes g from (e ∷ xs) new) (ordinary_votes g from (e ∷ ys) new)
+  head-same : (e : Entry) (xs ys : List Entry) (new : Table) → ((t : Table) → Alike (ordinary_votes g from xs t) (ordinary_votes g from ys t))
+      → Alike (ordinary_votes g from (e ∷ xs) new) (ordinary_votes g from (e ∷ ys) new)
   head-same e xs ys new h = go (act g from e)
     where
-      go : Act e.id (voted g from e) → SameVotes (ordinary_votes g from (e ∷ xs) new) (ordinary_votes g from (e ∷ ys) new)
+      go : Act e.id (voted g from e) → Alike (ordinary_votes g from (e ∷ xs) new) (ordinary_votes g from (e ∷ ys) new)
       go (goes w p) =
           let t = written w new in
-          subst₂ SameVotes (sym (head-goes e xs new t (p new))) (sym (head-goes e ys new t (p new))) (h t)
-      go (halts n u p) = inl (head-halts e xs new n u (p new) ∙ sym (head-halts e ys new n u (p new)))
+          subst₂ Alike (sym (head-goes e xs new t (p new))) (sym (head-goes e ys new t (p new))) (h t)
+      go (halts n u p) = alike_equal _ _ (head-halts e xs new n (p new) ∙ sym (head-halts e ys new n (p new)))
 
   -- two neighbours exchanged
-  heads-exchanged : (a b : Entry) (l : List Entry) (new : Table) → Separate a b → SameVotes (ordinary_votes g from (a ∷ b ∷ l) new) (ordinary_votes g from (b ∷ a ∷ l) new)
+  heads-exchanged : (a b : Entry) (l : List Entry) (new : Table) → Separate a b → Alike (ordinary_votes g from (a ∷ b ∷ l) new) (ordinary_votes g from (b ∷ a ∷ l) new)
   heads-exchanged a b l new s = go (act g from a) (act g from b)
     where
-      refused : {v : Voted} (t : Table) (n : ℕ) → NoParameter n → v ≡ stops t n → NoParameter v.refusal
-      refused t n u e = subst (λ (x : Voted). NoParameter x.refusal) (sym e) u
-
-      go : Act a.id (voted g from a) → Act b.id (voted g from b) → SameVotes (ordinary_votes g from (a ∷ b ∷ l) new) (ordinary_votes g from (b ∷ a ∷ l) new)
+      go : Act a.id (voted g from a) → Act b.id (voted g from b) → Alike (ordinary_votes g from (a ∷ b ∷ l) new) (ordinary_votes g from (b ∷ a ∷ l) new)
       go (goes w p) (goes u q) =
           let x = written w new in
           let y = written u new in
-          inl
+          alike_equal _ _
           (head-goes a (b ∷ l) new x (p new) ∙ head-goes b l x (written u x) (q x)
           ∙ ap (ordinary_votes g from l) (writes-comm a b s w u new)
           ∙ sym (head-goes b (a ∷ l) new y (q new) ∙ head-goes a l y (written w y) (p y)))
       go (goes w p) (halts n u q) =
           let x = written w new in
-          inr (
-            refused x n u (head-goes a (b ∷ l) new x (p new) ∙ head-halts b l x n u (q x)),
-            refused new n u (head-halts b (a ∷ l) new n u (q new)),
-          )
+          alike_halted _ _ n n u u (head-goes a (b ∷ l) new x (p new) ∙ head-halts b l x n (q x)) (head-halts b (a ∷ l) new n (q new))
       go (halts n u p) (goes w q) =
           let y = written w new in
-          inr (
-            refused new n u (head-halts a (b ∷ l) new n u (p new)),
-            refused y n u (head-goes b (a ∷ l) new y (q new) ∙ head-halts a l y n u (p y)),
-          )
-      go (halts n u p) (halts m w q) =
-          inr (refused new n u (head-halts a (b ∷ l) new n u (p new)), refused new m w (head-halts b (a ∷ l) new m w (q new)))
+          alike_halted _ _ n n u u (head-halts a (b ∷ l) new n (p new)) (head-goes b (a ∷ l) new y (q new) ∙ head-halts a l y n (p y))
+      go (halts n u p) (halts m w q) = alike_halted _ _ n m u w (head-halts a (b ∷ l) new n (p new)) (head-halts b (a ∷ l) new m (q new))
 
-  votes-same : {xs ys : List Entry} → Permᴰ xs ys → Pairwise Separate xs → (new : Table) → SameVotes (ordinary_votes g from xs new) (ordinary_votes g from ys new)
-  votes-same Permᴰ.nil h new = inl refl
-  votes-same (Permᴰ.cons {a} {b} {l₁} {l₂} e d) h new =
-      subst (λ (x : Entry). SameVotes (ordinary_votes g from (a ∷ l₁) new) (ordinary_votes g from (x ∷ l₂) new)) e
-      (head-same a l₁ l₂ new (votes-same d h.1))
-  votes-same (Permᴰ.swap {a} {b} {a'} {b'} {l} e f) h new =
-      subst₂ (λ (x y : Entry). SameVotes (ordinary_votes g from (a ∷ b ∷ l) new) (ordinary_votes g from (x ∷ y ∷ l) new)) f e
+  votes-alike : {xs ys : List Entry} → Permᴰ xs ys → Pairwise Separate xs → (new : Table) → Alike (ordinary_votes g from xs new) (ordinary_votes g from ys new)
+  votes-alike Permᴰ.nil h new = alike_equal _ _ refl
+  votes-alike (Permᴰ.cons {a} {b} {l₁} {l₂} e d) h new =
+      subst (λ (x : Entry). Alike (ordinary_votes g from (a ∷ l₁) new) (ordinary_votes g from (x ∷ l₂) new)) e
+      (head-same a l₁ l₂ new (votes-alike d h.1))
+  votes-alike (Permᴰ.swap {a} {b} {a'} {b'} {l} e f) h new =
+      subst₂ (λ (x y : Entry). Alike (ordinary_votes g from (a ∷ b ∷ l) new) (ordinary_votes g from (x ∷ y ∷ l) new)) f e
       (heads-exchanged a b l new h.0.0)
-  votes-same (Permᴰ.trans {l₁} {l₂} {l₃} d f) h new =
-      same_then (ordinary_votes g from l₁ new) (ordinary_votes g from l₂ new) (ordinary_votes g from l₃ new)
-      (votes-same d h new) (votes-same f (pairwise-moved Separate turned d h) new)
+  votes-alike (Permᴰ.trans {l₁} {l₂} {l₃} d f) h new =
+      alike_then (ordinary_votes g from l₁ new) (ordinary_votes g from l₂ new) (ordinary_votes g from l₃ new)
+      (votes-alike d h new) (votes-alike f (pairwise-moved Separate turned d h) new)
 
 -- ---- the count for the fork
 
@@ -209,49 +211,23 @@ count_same (Permᴰ.trans d f) h = count_same d h ∙ count_same f (pairwise-mov
 
 -- ---- the boundary
 
-pub record SameBoundary (x y : Boundary) : Type 0 where
-  pub refusal : SameRefusal x.refusal y.refusal
-  pub table : x.table ≡ y.table
-  pub round : x.round ≡ y.round
-
-equal : (x y : Boundary) → x ≡ y → SameBoundary x y
-equal x y e = record { refusal = inl (ap (λ (b : Boundary). b.refusal) e); table = ap (λ (b : Boundary). b.table) e; round = ap (λ (b : Boundary). b.round) e }
-
-gate_same : (t : Table) (n : ℕ) (x y : Boundary) → SameBoundary x y → SameBoundary (gate (refuses t) n x) (gate (refuses t) n y)
-unfolding gate
-gate_same t zero x y h = h
-gate_same t (suc n) x y h = equal (refuses t (suc n)) (refuses t (suc n)) refl
-
-both-stop : (t : Table) (n m : ℕ) (x y : Boundary) → NoParameter n → NoParameter m → SameBoundary (gate (refuses t) n x) (gate (refuses t) m y)
-both-stop t n m x y p q =
-    subst₂ SameBoundary (gate-stop (refuses t) n x (not-zero n p)) (gate-stop (refuses t) m y (not-zero m q)) (record { refusal = inr (p, q); table = refl; round = refl })
-
--- after the votes, and after the fork part
-abbrev after_votes : Table → Round → Bool → Voted → Boundary
-after_votes t round disables v =
-    gate (refuses t) v.refusal (record { refusal = 0; table = with_subblocks (round.rose && disables) v.table; round = round })
-
-after-votes-same : (t : Table) (round : Round) (disables : Bool) (v w : Voted) → SameVotes v w → SameBoundary (after_votes t round disables v) (after_votes t round disables w)
-after-votes-same t round disables v w (inl e) = equal (after_votes t round disables v) (after_votes t round disables w) (ap (after_votes t round disables) e)
-after-votes-same t round disables v w (inr h) = both-stop t v.refusal w.refusal _ _ h.0 h.1
-
 module _ (g : VotingConfig) (height : ℕ) (t : Table) {xs ys : List Entry} (d : Permᴰ xs ys) (h : Pairwise Separate xs) (vote disables : Bool) where
-  abbrev after_part : List Entry → ForkPart → Boundary
+  -- after the fork part
+  abbrev after_part : List Entry → ForkPart → Result Boundary Refusal
   after_part tally part =
-      gate (refuses t) part.refusal (after_votes t part.round disables (ordinary_votes g (with_fork t part.fork) tally (with_fork t part.fork)))
+      and_then (ordinary_votes g (with_fork t part.fork) tally (with_fork t part.fork))
+      (λ new. Ok (record { table = with_subblocks (part.round.rose && disables) new; round = part.round }))
 
-  after-part-same : (part : ForkPart) → SameBoundary (after_part xs part) (after_part ys part)
-  after-part-same part =
-      let from = with_fork t part.fork in
-      gate_same t part.refusal _ _ (after-votes-same t part.round disables (ordinary_votes g from xs from) (ordinary_votes g from ys from) (votes-same g from d h from))
+  after-part-alike : (part : ForkPart) → Alike (after_part xs part) (after_part ys part)
+  after-part-alike part = let from = with_fork t part.fork in then-alike _ _ _ _ (votes-alike g from d h from) (λ new. refl)
 
-  separate-same : SameBoundary (boundary_of g height t xs vote disables) (boundary_of g height t ys vote disables)
+  separate-same : Alike (boundary_of g height t xs vote disables) (boundary_of g height t ys vote disables)
   unfolding boundary_of
   separate-same =
-      subst (λ (n : ℕ). SameBoundary (boundary_of g height t xs vote disables) (after_part ys (fork_part g height vote n t.fork)))
-      (count_same d h)
-      (after-part-same (fork_part g height vote (fork_count xs) t.fork))
+      let part = λ (n : ℕ). fork_part g height vote n t.fork in
+      subst (λ (n : ℕ). Alike (boundary_of g height t xs vote disables) (and_then (part n) (after_part ys))) (count_same d h)
+      (then-alike (part (fork_count xs)) (part (fork_count xs)) (after_part xs) (after_part ys) (alike_equal _ _ refl) after-part-alike)
 
 pub boundary-same : (g : VotingConfig) (height : ℕ) (t : Table) {xs ys : List Entry} → Permᴰ xs ys → Consistent xs → (vote disables : Bool)
-    → SameBoundary (boundary_of g height t xs vote disables) (boundary_of g height t ys vote disables)
+    → Alike (boundary_of g height t xs vote disables) (boundary_of g height t ys vote disables)
 boundary-same g height t {xs} {ys} d h vote disables = separate-same g height t d (pairwise Compatible Separate separate xs h) vote disables

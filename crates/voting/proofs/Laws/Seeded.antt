@@ -1,6 +1,7 @@
 -- The tally of an epoch of legal headers: no entry repeats or contradicts another.
 -- Assumes nothing.
 use Rattle.std.proofs.Common.{◌≡◌, ℕ, suc, ◌<◌, Bool, true, false, cond, eqb, List, [], ◌∷◌, ℤ, pos, sym, refl, ap, ◌∙◌, true≢false, arith, w8, lt-ltb, eq-eqb, eqb-true}
+use Rattle.codec.specs.Check.{passed}
 use Rattle.codec.specs.Signed.{bits_of, signed_of}
 use Rattle.codec.proofs.Laws.Signed.{signed_back}
 use Rattle.voting.specs.declared.tally.Entry.{Entry}
@@ -46,7 +47,7 @@ unfolding signed_of
 zero-id = refl
 
 -- two places of a legal header
-module _ (bs : List ℕ) (legal : check_header_votes bs ≡ 0) (later : List ℕ) where
+module _ (bs : List ℕ) (legal : check_header_votes bs ≡ passed) (later : List ℕ) where
   slots-compatible : (a b : ℕ) → a < 256 → b < 256 → 0 < count (eqb a) bs → 0 < count (eqb b) bs → (a ≡ b → 1 < count (eqb a) bs)
       → ((slot_entry later a).id ≡ pos 0 → ⊥) → ((slot_entry later b).id ≡ pos 0 → ⊥) → Compatible (slot_entry later a) (slot_entry later b)
   unfolding votes_for
@@ -65,7 +66,7 @@ module _ (bs : List ℕ) (legal : check_header_votes bs ≡ 0) (later : List ℕ
       opposite e =
           ap (λ (x : ℤ). eq_z x (signed_of 8 a)) (ap negation (sym (slot-id later b)) ∙ sym e ∙ slot-id later a) ∙ eq_z-same (signed_of 8 a)
 
-slots-consistent : (a b c : ℕ) (later : List ℕ) → a < 256 → b < 256 → c < 256 → check_header_votes (a ∷ b ∷ c ∷ []) ≡ 0 → Consistent (entries (seeded (a ∷ b ∷ c ∷ later)))
+slots-consistent : (a b c : ℕ) (later : List ℕ) → a < 256 → b < 256 → c < 256 → check_header_votes (a ∷ b ∷ c ∷ []) ≡ passed → Consistent (entries (seeded (a ∷ b ∷ c ∷ later)))
 unfolding entries seeded count
 slots-consistent a b c later ha hb hc legal =
     let x = slot_entry later a in

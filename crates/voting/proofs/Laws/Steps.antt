@@ -7,11 +7,11 @@ use borrow.Author.Tests.{eqb-false}
 use Rattle.codec.specs.Signed.{signed_of}
 use Rattle.voting.specs.declared.settings.VotingConfig.{VotingConfig}
 use Rattle.voting.specs.Value.{Value}
-use Rattle.std.specs.Prelude.{Some}
+use Rattle.std.specs.Prelude.{Some, Ok}
 use Rattle.voting.specs.declared.table.Fork.{Fork}
 use Rattle.voting.specs.declared.table.Table.{Table}
 use Rattle.voting.specs.declared.tally.Entry.{Entry}
-use Rattle.voting.specs.declared.ordinary.Voted.{Voted}
+use Rattle.voting.specs.declared.boundary.Boundary.{Boundary}
 use Rattle.voting.specs.Common.{eq_z, Each, Pairwise, Bytes}
 use Rattle.voting.specs.Settings.{voting_length, change_approved}
 use Rattle.voting.specs.Table.{with_fork, lookup, update}
@@ -21,15 +21,15 @@ use Rattle.voting.specs.Ordinary.{least_of, greatest_of, parameter, raised, lowe
 use Rattle.voting.specs.Boundary.{is_number, is_absent, with_subblocks, boundary_of}
 use Rattle.voting.specs.Order.{Compatible, Consistent}
 use Rattle.voting.specs.Steps.{step_of, Step, Stepped}
-use Rattle.voting.proofs.Laws.Tests.{by-test, both}
+use Rattle.voting.proofs.Laws.Tests.{by-test, both, then_ok}
 use Rattle.voting.proofs.Laws.Integers.{ne-eq_z}
 use Rattle.voting.proofs.Laws.Each.{each, pairwise}
 use Rattle.voting.proofs.Laws.Header.{alike-bytes}
 use Rattle.voting.proofs.Laws.Tally.{tally-counts}
 use Rattle.voting.proofs.Laws.Table.{lookup-known, lookup-update-same, lookup-update-other}
 use Rattle.voting.proofs.Laws.Step.{Size, sized}
-use Rattle.voting.proofs.Laws.Ordinary.{by-vote, voted-carries, ordinary-stays, onward-zero}
-use Rattle.voting.proofs.Laws.Boundary.{forked_by, passed}
+use Rattle.voting.proofs.Laws.Ordinary.{by-vote, voted-carries, ordinary-stays}
+use Rattle.voting.proofs.Laws.Boundary.{passes}
 use Rattle.voting.proofs.Laws.Order.{Separate, separate}
 use Rattle.voting.proofs.Laws.Seeded.{tally-consistent}
 
@@ -97,12 +97,14 @@ module _ (g : VotingConfig) (q : ℕ) (z : ℤ) where
 
   -- one after another, from the table `from`
   module _ (small : q < 9) (from : Table) (old : lookup from (suc q) ≡ Some z) where
-    voted-here : (e : Entry) (new : Table) → parameter e.id ≡ suc q → lookup new (suc q) ≡ Some z → (voted g from e new).refusal ≡ 0
-        → lookup (voted g from e new).table (suc q) ≡ after e
-    voted-here e new i h =
-        by-vote (λ f. (f new).refusal ≡ 0 → lookup (f new).table (suc q) ≡ after e) g from e
-        (λ c r. rw c h) (λ c k r. absurd (omega arith)) (λ c k l r. absurd (omega arith))
-        (λ y c k l r. rw c (written y (sym (ap (lookup from) (sym i) ∙ l) ∙ old)))
+    voted-here : (e : Entry) (new t : Table) → parameter e.id ≡ suc q → lookup new (suc q) ≡ Some z → voted g from e new ≡ Ok t
+        → lookup t (suc q) ≡ after e
+    voted-here e new t i h =
+        by-vote (λ f. f new ≡ Ok t → lookup t (suc q) ≡ after e) g from e
+        (λ c r. let j : new ≡ t = cc in rw c (rw j at h)) (λ c k r. absurd cc) (λ c k l r. absurd cc)
+        (λ y c k l r.
+        let j : update new (parameter e.id) (Some (moved e.id y)) ≡ t = cc in
+        rw c (rw j at (written y (sym (ap (lookup from) (sym i) ∙ l) ∙ old))))
       where
         written : (y : ℤ) → Some y ≡ Some z → lookup (update new (parameter e.id) (Some (moved e.id y))) (suc q) ≡ Some (moved e.id z)
         written y p =
@@ -110,31 +112,28 @@ module _ (g : VotingConfig) (q : ℕ) (z : ℤ) where
             (lookup-update-same new (suc q) (Some (moved e.id y)) z (is_known q small (suc q) refl) h)
             ∙ ap (λ (x : ℤ). Some (moved e.id x)) (let s : y ≡ z = cc in s)
 
-    voted-other : (e : Entry) (new : Table) → Other e → lookup new (suc q) ≡ Some z → lookup (voted g from e new).table (suc q) ≡ Some z
-    voted-other e new o =
-        voted-carries (λ t. lookup t (suc q) ≡ Some z) g from e new (λ c k t y h. lookup-update-other t (parameter e.id) (suc q) y (λ i. o (sym i)) ∙ h)
+    voted-other : (e : Entry) (new t : Table) → Other e → lookup new (suc q) ≡ Some z → voted g from e new ≡ Ok t → lookup t (suc q) ≡ Some z
+    voted-other e new t o =
+        voted-carries (λ t. lookup t (suc q) ≡ Some z) g from e new t (λ c k t y h. lookup-update-other t (parameter e.id) (suc q) y (λ i. o (sym i)) ∙ h)
 
     -- the entries behind one for the parameter are for others
     rest-other : (e : Entry) (es : List Entry) → parameter e.id ≡ suc q → Each (Separate e) es → Each Other es
     rest-other e es i = each (Separate e) Other (λ x s j. s.0 (is_known q small (parameter e.id) i) (is_known q small (parameter x.id) j) (i ∙ sym j)) es
 
-    votes-move : (es : List Entry) → Pairwise Separate es → (new : Table) → lookup new (suc q) ≡ Some z → (ordinary_votes g from es new).refusal ≡ 0
-        → By es (lookup (ordinary_votes g from es new).table (suc q))
+    votes-move : (es : List Entry) → Pairwise Separate es → (new t : Table) → lookup new (suc q) ≡ Some z → ordinary_votes g from es new ≡ Ok t
+        → By es (lookup t (suc q))
     unfolding ordinary_votes first_count
-    votes-move [] s new h r = record { value = h ∙ rw (none-approved g); one_way = inl refl }
-    votes-move (e ∷ es) s new h r =
-        let t = (voted g from e new).table in
-        let o = onward-zero (voted g from e new) (ordinary_votes g from es) r in
-        let goes : (ordinary_votes g from es t).refusal ≡ 0 = ap (λ (v : Voted). v.refusal) (sym o.1) ∙ r in
-        subst (λ (v : Voted). By (e ∷ es) (lookup v.table (suc q))) (sym o.1)
-        (by-test (eqb (parameter e.id) (suc q))
+    votes-move [] s new t h r = let j : new ≡ t = cc in record { value = rw j at h ∙ rw (none-approved g); one_way = inl refl }
+    votes-move (e ∷ es) s new t h r =
+        let o = then_ok (voted g from e new) (ordinary_votes g from es) r in
+        by-test (eqb (parameter e.id) (suc q))
         (λ i.
         let p = eqb-true (parameter e.id) (suc q) i in
         let others = rest-other e es p s.0 in
-        subst (By (e ∷ es)) (sym (ordinary-stays g from t es (suc q) others ∙ voted-here e new p h o.0)) (here small es others e.id e.count p))
+        subst (By (e ∷ es)) (sym (ordinary-stays g from o.0 t es (suc q) others o.2 ∙ voted-here e new o.0 p h o.1)) (here small es others e.id e.count p))
         (λ i.
         let other = eqb-false (parameter e.id) (suc q) i in
-        elsewhere e es (lookup (ordinary_votes g from es t).table (suc q)) other (votes-move es s.1 t (voted-other e new other h) goes)))
+        elsewhere e es (lookup t (suc q)) other (votes-move es s.1 o.0 t (voted-other e new o.0 other h o.1) o.2))
 
 -- ---- the boundary
 
@@ -161,14 +160,14 @@ subblocks-apart off t p y h = go (is_number (lookup t 123) (pos 4) && is_absent 
 
 module _ (g : VotingConfig) (height : ℕ) (t : Table) (tally : List Entry) (vote disables : Bool) (consistent : Consistent tally) (q : ℕ) (small : q < 9) (z : ℤ)
     (old : lookup t (suc q) ≡ Some z) where
-  boundary-moves : (boundary_of g height t tally vote disables).refusal ≡ 0 → By g q z tally (lookup (boundary_of g height t tally vote disables).table (suc q))
-  boundary-moves e =
-      let p = passed g height t tally vote disables e in
-      let from = forked_by g height t tally vote in
-      let h : lookup from (suc q) ≡ Some z = fork-apart t from.fork (suc q) (is_known q small (suc q) refl) ∙ old in
-      let m = votes-move g q z small from h tally (pairwise Compatible Separate separate tally consistent) from h p.votes-pass in
+  boundary-moves : (b : Boundary) → boundary_of g height t tally vote disables ≡ Ok b → By g q z tally (lookup b.table (suc q))
+  boundary-moves b e =
+      let p = passes g height t tally vote disables b e in
+      let from = with_fork t p.part.fork in
+      let h : lookup from (suc q) ≡ Some z = fork-apart t p.part.fork (suc q) (is_known q small (suc q) refl) ∙ old in
+      let m = votes-move g q z small from h tally (pairwise Compatible Separate separate tally consistent) from p.voted h p.votes-pass in
       record {
-        value = ap (λ (x : Table). lookup x (suc q)) p.new-table ∙ subblocks-apart _ (ordinary_votes g from tally from).table (suc q) _ m.value;
+        value = ap (λ (x : Table). lookup x (suc q)) p.new-table ∙ subblocks-apart _ p.voted (suc q) _ m.value;
         one_way = m.one_way;
       }
 
@@ -292,17 +291,16 @@ unfolding signed_of
 down-id q h = rw (le-ltb (256 - suc q) 128 (omega arith)) (ap negsuc (let e : 256 - suc (256 - suc q) ≡ q = omega arith in e))
 
 pub boundary-steps : (g : VotingConfig) (height : ℕ) (t : Table) (epoch : List ℕ) (vote disables : Bool) → Bytes epoch → whole epoch ≡ epoch → AllLegal (headers epoch)
-    → (boundary_of g height t (entries (seeded epoch)) vote disables).refusal ≡ 0
-    → Stepped (voting_length g / 2) epoch t (boundary_of g height t (entries (seeded epoch)) vote disables).table
-boundary-steps g height t epoch vote disables b w l e zero low high z old = absurd (omega arith)
-boundary-steps g height t epoch vote disables b w l e (suc q) low high z old =
+    → (after : Boundary) → boundary_of g height t (entries (seeded epoch)) vote disables ≡ Ok after → Stepped (voting_length g / 2) epoch t after.table
+boundary-steps g height t epoch vote disables b w l after e zero low high z old = absurd (omega arith)
+boundary-steps g height t epoch vote disables b w l after e (suc q) low high z old =
     let small : q < 9 = omega arith in
     let tally = entries (seeded epoch) in
-    let new = lookup (boundary_of g height t tally vote disables).table (suc q) in
+    let new = lookup after.table (suc q) in
     let counted : (v : ℕ) → (v ≡ 0 → ⊥) → v < 256 → first_count (signed_of 8 v) tally ≡ counted_for v epoch =
     λ v n h. tally-counts v n epoch w (alike-bytes v h epoch b) l in
     step_is g epoch q z new
     (subst₂ (λ (m n : ℕ). Moved g q z m n new)
     (ap (λ (v : ℤ). first_count v tally) (sym (up-id q small)) ∙ counted (suc q) (λ i. omega arith) (omega arith))
     (ap (λ (v : ℤ). first_count v tally) (sym (down-id q small)) ∙ counted (256 - suc q) (λ i. omega arith) (omega arith))
-    (boundary-moves g height t tally vote disables (tally-consistent epoch b l) q small z old e))
+    (boundary-moves g height t tally vote disables (tally-consistent epoch b l) q small z old after e))

@@ -1,17 +1,17 @@
 -- The tally of a window of headers: what its functions need, and that the first entry of a vote counts the headers that vote so.
 -- Assumes nothing.
-use Rattle.std.proofs.Common.{◌≡◌, ℕ, zero, suc, ◌+◌, ◌-◌, ◌*◌, ◌/◌, ◌<◌, ◌≤◌, Bool, true, false, cond, eqb, ltb, List, [], ◌∷◌, length, get_or, take, drop, ℤ, pos, sym, refl, ap, ◌∙◌, subst, add-one, arith, length-drop, length-take-le, take_all, w8, SFits, of_z, le-ltb, lt-ltb, eq-eqb, ne_eqb, eqb-true}
+use Rattle.std.proofs.Common.{◌≡◌, ℕ, zero, suc, ◌+◌, ◌-◌, ◌*◌, ◌/◌, ◌<◌, ◌≤◌, Bool, true, false, cond, eqb, ltb, List, [], ◌∷◌, length, get_or, take, drop, ℤ, pos, sym, refl, ap, ◌∙◌, subst, add-one, arith, length-drop, length-take-le, take_all, le-ltb, lt-ltb, eq-eqb, ne_eqb, eqb-true}
 use lib.Seq.{take-length}
-use Rattle.codec.specs.Refusal.{input_long}
+use Rattle.std.specs.Prelude.{Ok, Err}
+use Rattle.codec.specs.declared.refusal.Refusal.TheVariants.{InputLong}
 use Rattle.codec.specs.Signed.{signed_of}
 use Rattle.voting.specs.declared.tally.Entry.{Entry}
 use Rattle.voting.specs.declared.tally.Tally.{Tally}
-use Rattle.voting.specs.declared.tally.Tallied.{Tallied}
 use Rattle.counting.specs.Count.{count}
 use Rattle.voting.specs.Common.{eq_z}
-use Rattle.voting.specs.Header.{soft_fork_vote, votes_for, AllLegal}
+use Rattle.voting.specs.Header.{votes_for, AllLegal}
 use Rattle.voting.specs.Tally.{headers, whole, no_entry, no_tally, slot_entry, seeded, seeds, tally_votes_seeded, entry, entries, first_count, first_votes, counted_for}
-use Rattle.voting.proofs.Laws.Integers.{eq_z-true, ne-eq_z, is-number}
+use Rattle.voting.proofs.Laws.Integers.{eq_z-true, ne-eq_z}
 use Rattle.voting.proofs.Laws.Header.{Alike, small-id, legal-once}
 
 -- A slot's entry
@@ -50,16 +50,16 @@ pub whole_length : (bs : List ℕ) → length (take (3 * (length bs / 3)) bs) �
 whole_length bs = length-take-le (3 * (length bs / 3)) bs (omega arith)
 
 -- The tally of a window, by its length and its height
-module _ (first : ℕ) (votes : List ℕ) (boundary length' : ℕ) {y : Tally} where
-  pub window-long : 65536 < length votes / 3 → y ≡ no_tally → ◌≡◌ {A = Tallied} (record { refusal = input_long; tally = y }) (tally_votes_seeded first votes boundary length')
+module _ (first : ℕ) (votes : List ℕ) (boundary length' : ℕ) where
+  pub window-long : 65536 < length votes / 3 → Err InputLong ≡ tally_votes_seeded first votes boundary length'
   unfolding tally_votes_seeded
-  window-long h e = rw (lt-ltb 65536 (length votes / 3) h, e)
+  window-long h = rw (lt-ltb 65536 (length votes / 3) h)
 
-  pub window-elsewhere : length votes / 3 ≤ 65536 → (first + length' ≡ boundary → ⊥) → y ≡ no_tally → ◌≡◌ {A = Tallied} (record { refusal = 0; tally = y }) (tally_votes_seeded first votes boundary length')
+  pub window-elsewhere : length votes / 3 ≤ 65536 → (first + length' ≡ boundary → ⊥) → {y : Tally} → y ≡ no_tally → Ok y ≡ tally_votes_seeded first votes boundary length'
   unfolding tally_votes_seeded seeds
   window-elsewhere h k e = rw (le-ltb 65536 (length votes / 3) h, ne_eqb (first + length') boundary k, e)
 
-  pub window-here : length votes / 3 ≤ 65536 → first + length' ≡ boundary → y ≡ seeded (take (3 * (length votes / 3)) votes) → ◌≡◌ {A = Tallied} (record { refusal = 0; tally = y }) (tally_votes_seeded first votes boundary length')
+  pub window-here : length votes / 3 ≤ 65536 → first + length' ≡ boundary → {y : Tally} → y ≡ seeded (take (3 * (length votes / 3)) votes) → Ok y ≡ tally_votes_seeded first votes boundary length'
   unfolding tally_votes_seeded seeds whole
   window-here h k e = rw (le-ltb 65536 (length votes / 3) h, eq-eqb (first + length') boundary k, e)
 
@@ -79,19 +79,6 @@ nothing v = refl
 places : (v : ℤ) → (pos 0 ≡ v → ⊥) → (y : Tally) → first_count v (entries y) ≡ cond (eq_z y.first.id v) y.first.count (cond (eq_z y.second.id v) y.second.count (cond (eq_z y.third.id v) y.third.count 0))
 unfolding entries
 places v n y = rw (entry-count v n y.first (entry y.second (entry y.third [])), entry-count v n y.second (entry y.third []), entry-count v n y.third [], nothing v)
-
--- the machine's test of an id for the fork
-fork-test : (z : ℤ) → SFits w8 z → eq_z z (pos soft_fork_vote) ≡ eqb (of_z w8 z) soft_fork_vote
-fork-test z f = is-number w8 z soft_fork_vote f (omega arith)
-
-pub is-fork : (z : ℤ) → SFits w8 z → of_z w8 z ≡ soft_fork_vote → eq_z z (pos soft_fork_vote) ≡ true
-is-fork z f e = fork-test z f ∙ eq-eqb (of_z w8 z) soft_fork_vote e
-
-pub not-fork : (z : ℤ) → SFits w8 z → (of_z w8 z ≡ soft_fork_vote → ⊥) → eq_z z (pos soft_fork_vote) ≡ false
-not-fork z f e = fork-test z f ∙ ne_eqb (of_z w8 z) soft_fork_vote e
-
-pub fork_by : (y : Tally) (s t u : Bool) → eq_z y.first.id (pos soft_fork_vote) ≡ s → eq_z y.second.id (pos soft_fork_vote) ≡ t → eq_z y.third.id (pos soft_fork_vote) ≡ u → cond s y.first.count (cond t y.second.count (cond u y.third.count 0)) ≡ first_count (pos soft_fork_vote) (entries y)
-fork_by y s t u p q r = rw (places (pos soft_fork_vote) (λ e. let z : ◌≡◌ {A = ℕ} 0 soft_fork_vote = cc in omega arith) y, p, q, r)
 
 -- Headers, three bytes each
 whole-cons : (a b c : ℕ) (bs : List ℕ) → whole (a ∷ b ∷ c ∷ bs) ≡ a ∷ b ∷ c ∷ whole bs

@@ -1,9 +1,11 @@
--- Tests taken apart, and tests that say the same.
+-- Tests taken apart, and tests that say the same; answers taken apart, and what follows one.
 -- Assumes nothing.
-use Rattle.std.proofs.Common.{◌≡◌, ℕ, zero, suc, ◌<◌, ◌≤◌, Bool, true, false, ◌&&◌, ◌||◌, eqb, ltb, leb, List, [], ◌∷◌, sym, refl, ◌∙◌, true≢false, arith, eq-eqb, ne_eqb, eqb-true, le-leb, leb-false, leb-true}
+use Rattle.std.proofs.Common.{◌≡◌, ℕ, suc, ◌<◌, ◌≤◌, Bool, true, false, ◌&&◌, ◌||◌, eqb, ltb, leb, List, [], ◌∷◌, sym, refl, true≢false, arith, eq-eqb, ne_eqb, eqb-true, le-leb, leb-false, leb-true}
 use mathlib.Core.Bool.{false≢true}
 use borrow.Author.Tests.{eqb-false}
-use Rattle.voting.specs.Common.{gate}
+use Rattle.std.specs.Prelude.{Result, Ok, Err, ⊤, IsErrAnd}
+use Rattle.std.specs.Result.{result_and}
+use Rattle.codec.specs.Check.{and_then}
 
 -- the two ways of a test
 pub by-test : {P : Type 0} (b : Bool) → (b ≡ true → P) → (b ≡ false → P) → P
@@ -56,27 +58,40 @@ eqb_comm a b = go (eqb b a) refl
     go true e = eq-eqb a b (sym (eqb-true b a e))
     go false e = ne_eqb a b (λ q. eqb-false b a e (sym q))
 
--- ---- refusals in order
+-- ---- answers
 
-module _ {A : Type 0} (refuses : ℕ → A) where
-  pub gate-stop : (n : ℕ) (x : A) → (n ≡ 0 → ⊥) → refuses n ≡ gate refuses n x
-  unfolding gate
-  gate-stop zero x d = absurd (d refl)
-  gate-stop (suc n) x d = refl
+-- the two ways of an answer
+pub by-answer : {P A E : Type 0} (r : Result A E) → ((x : A) → r ≡ Ok x → P) → ((e : E) → r ≡ Err e → P) → P
+by-answer (Ok x) f g = f x refl
+by-answer (Err e) f g = g e refl
 
-  pub gate-pass : (n : ℕ) (x : A) → n ≡ 0 → x ≡ gate refuses n x
-  unfolding gate
-  gate-pass zero x e = refl
-  gate-pass (suc n) x e = absurd (omega arith)
+-- what a `?` gives back at once is the refusal
+pub early : {A E : Type 0} (r : Result A E) {e : E} → IsErrAnd r (λ x. x ≡ e) → r ≡ Err e
+early (Ok x) h = absurd h
+early (Err y) h = rw h
 
-  -- what holds of a refusal and of what follows
-  pub gate-by : (P : A → Type 0) (n : ℕ) (x : A) → ((k : ℕ) → n ≡ suc k → P (refuses (suc k))) → P x → P (gate refuses n x)
-  unfolding gate
-  gate-by P zero x f g = g
-  gate-by P (suc n) x f g = f n refl
+-- what follows an answer: it was refused, or it goes on with the value
+module _ {A B E : Type 0} (r : Result A E) (next : A → Result B E) where
+  pub then-stop : {e : E} → r ≡ Err e → and_then r next ≡ Err e
+  then-stop q = rw q
 
-  -- not refused: the number was 0, and what follows is the answer
-  pub gate-zero : (f : A → ℕ) → ((n : ℕ) → f (refuses n) ≡ n) → (n : ℕ) (x : A) → f (gate refuses n x) ≡ 0 → (n ≡ 0) × (gate refuses n x ≡ x)
-  unfolding gate
-  gate-zero f q zero x e = (refl, refl)
-  gate-zero f q (suc n) x e = absurd (let z : suc n ≡ 0 = sym (q (suc n)) ∙ e in omega arith)
+  pub then-pass : {x : A} → r ≡ Ok x → and_then r next ≡ next x
+  then-pass q = rw q
+
+-- where what follows has a value, the answer had one
+pub then_ok : {A B E : Type 0} (r : Result A E) (next : A → Result B E) {y : B} → and_then r next ≡ Ok y → (x : A) × (r ≡ Ok x) × (next x ≡ Ok y)
+then_ok (Ok x) next q = (x, refl, q)
+then_ok (Err e) next q = cc
+
+-- two answers in order: the first refusal, or else the second
+module _ {A B E : Type 0} (r : Result A E) (s : Result B E) where
+  pub and-stop : {e : E} → r ≡ Err e → result_and r s ≡ Err e
+  and-stop q = rw q
+
+  pub and-pass : {x : A} → r ≡ Ok x → result_and r s ≡ s
+  and-pass q = rw q
+
+-- two checks pass only together
+pub and-passed : {E : Type 0} (r s : Result ⊤ E) → result_and r s ≡ Ok tt → (r ≡ Ok tt) × (s ≡ Ok tt)
+and-passed (Ok x) s q = (refl, q)
+and-passed (Err e) s q = cc

@@ -10,11 +10,10 @@ use lib.Dec.{eqb}
 use lib.ListN.{get_or, drop}
 use lib.Seq.{drop-cons}
 use borrow.Author.Tests.{not-true, not-false, eqb-true, eqb-false, le-leb}
-use Rattle.codec.specs.Refusal.{entry_differs}
+use Rattle.std.specs.Prelude.{Ok, Err, None}
 use Rattle.voting.specs.Ordinary.{known}
 use Rattle.voting.specs.Table.{lookup}
 use Rattle.voting.specs.Value.{Value}
-use Rattle.std.specs.Prelude.{None}
 use Rattle.voting.specs.declared.table.Fork.{Fork}
 use Rattle.voting.specs.declared.table.Table.{Table}
 use Rattle.voting.proofs.Laws.Tests.{by-test, both}
@@ -41,11 +40,11 @@ below f (suc n) e k h =
     let w = both (f n) (all-below f n) e in
     by-test (eqb k n) (λ q. ap f (eqb-true k n q) ∙ w.0) (λ q. below f n w.1 k (omega (arith, eqb-false k n q)))
 
--- the ids that are left
-module _ (e f : Table) (k : ℕ) where
-  pub unlike-fork : k ≤ 9 → 9 ≤ k → fork_unlike e.fork f.fork ≡ first_unlike e f (drop k table_ids)
-  unfolding fork_unlike first_unlike table_ids lookup
-  unlike-fork h l = let nine : k ≡ 9 = omega arith in rw nine
+-- the ids that are left, while the ids before them agree
+module _ (e f : Table) (k : ℕ) (so-far : first_unlike e f (drop k table_ids) ≡ first_unlike e f table_ids) where
+  pub match-fork : k ≤ 9 → 9 ≤ k → matched (fork_unlike e.fork f.fork) ≡ match_found e f
+  unfolding match_found fork_unlike first_unlike table_ids lookup
+  match-fork h l = let nine : k ≡ 9 = omega arith in ap matched (rw nine at so-far)
 
   module _ (h : k < 9) where
     here : drop k table_ids ≡ (k + 1) ∷ drop (k + 1) table_ids
@@ -55,56 +54,51 @@ module _ (e f : Table) (k : ℕ) where
         rw (add-one k) (drop-cons table_ids k 0 (omega arith) ∙ ap (λ (n : ℕ). n ∷ drop (suc k) table_ids) (id ∙ add-one k))
 
     abbrev entry : Table → Value
-    entry t = (get_or t.ordinary k None)
+    entry t = get_or t.ordinary k None
 
     entry-is : (t : Table) → lookup t (k + 1) ≡ entry t
     unfolding known
     entry-is t =
         let same : k + 1 - 1 ≡ k = omega arith in
         lookup-known t (k + 1) (rw (le-leb 1 (k + 1) (omega arith), le-leb (k + 1) 9 (omega arith)))
-        ∙ ap (λ (i : ℕ). (get_or t.ordinary i None)) same
+        ∙ ap (λ (i : ℕ). get_or t.ordinary i None) same
 
     module _ (d : Bool) (is-d : d ≡ not (agrees (entry e) (entry f))) where
-      pub unlike-here : d ≡ true → k + 1 ≡ first_unlike e f (drop k table_ids)
-      unfolding first_unlike
-      unlike-here t = let n = not-true (agrees (entry e) (entry f)) (sym is-d ∙ t) in rw (here, entry-is e, entry-is f, n)
+      pub match-here : d ≡ true → Err (record { id = k + 1 }) ≡ match_found e f
+      unfolding match_found first_unlike
+      match-here t =
+          let n = not-true (agrees (entry e) (entry f)) (sym is-d ∙ t) in
+          let is : k + 1 ≡ first_unlike e f (drop k table_ids) = rw (here, entry-is e, entry-is f, n) in
+          matched-other (k + 1) (λ z. omega arith) ∙ ap matched (is ∙ so-far)
 
-      pub unlike-next : d ≡ false → first_unlike e f (drop (k + 1) table_ids) ≡ first_unlike e f (drop k table_ids)
+      pub match-next : d ≡ false → first_unlike e f (drop (k + 1) table_ids) ≡ first_unlike e f table_ids
       unfolding first_unlike
-      unlike-next t = let y = not-false (agrees (entry e) (entry f)) (sym is-d ∙ t) in rw (here, entry-is e, entry-is f, y)
+      match-next t =
+          let y = not-false (agrees (entry e) (entry f)) (sym is-d ∙ t) in
+          rw (here, entry-is e, entry-is f, y) at so-far
 
 -- the entries of the fork
 module _ (e f : Fork) (a : Bool) (is-a : a ≡ not (agrees e.votes f.votes)) where
-  pub unlike-votes : a ≡ true → 121 ≡ fork_unlike e f
-  unfolding fork_unlike
+  pub unlike-votes : a ≡ true → Err (record { id = 121 }) ≡ matched (fork_unlike e f)
+  unfolding fork_unlike matched
   unlike-votes t = let votes = not-true (agrees e.votes f.votes) (sym is-a ∙ t) in rw votes
 
   module _ (t : a ≡ false) (b : Bool) (is_b : b ≡ not (agrees e.start f.start)) where
     votes : agrees e.votes f.votes ≡ true
     votes = not-false (agrees e.votes f.votes) (sym is-a ∙ t)
 
-    pub unlike-start : b ≡ true → 122 ≡ fork_unlike e f
-    unfolding fork_unlike
+    pub unlike-start : b ≡ true → Err (record { id = 122 }) ≡ matched (fork_unlike e f)
+    unfolding fork_unlike matched
     unlike-start u = let start = not-true (agrees e.start f.start) (sym is_b ∙ u) in rw (votes, start)
 
     module _ (u : b ≡ false) (c : Bool) (is_c : c ≡ not (agrees e.version f.version)) where
       start : agrees e.start f.start ≡ true
       start = not-false (agrees e.start f.start) (sym is_b ∙ u)
 
-      pub unlike-version : c ≡ true → 123 ≡ fork_unlike e f
-      unfolding fork_unlike
+      pub unlike-version : c ≡ true → Err (record { id = 123 }) ≡ matched (fork_unlike e f)
+      unfolding fork_unlike matched
       unlike-version v = let version = not-true (agrees e.version f.version) (sym is_c ∙ v) in rw (votes, start, version)
 
-      pub unlike-none : c ≡ false → 0 ≡ fork_unlike e f
-      unfolding fork_unlike
+      pub unlike-none : c ≡ false → Ok tt ≡ matched (fork_unlike e f)
+      unfolding fork_unlike matched
       unlike-none v = let version = not-false (agrees e.version f.version) (sym is_c ∙ v) in rw (votes, start, version)
-
--- 15, by the id that was found
-module _ (e f : Table) (id : ℕ) (is-id : id ≡ first_unlike e f table_ids) where
-  pub found_none : id ≡ 0 → record { refusal = 0; id = 0 } ≡ match_found e f
-  unfolding match_found matched
-  found_none z = rw (← is-id, z)
-
-  pub found_some : (id ≡ 0 → ⊥) → record { refusal = entry_differs; id = id } ≡ match_found e f
-  unfolding match_found
-  found_some d = rw (← is-id) (matched-other id d)

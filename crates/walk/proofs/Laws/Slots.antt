@@ -61,17 +61,17 @@ has-place a b = by-test (eqb a 0) (λ t. rw t (λ q. refl)) (λ t. rw t (λ q. a
 module _ (m : ParameterMap) (id : ℕ) (v : Value) where
   entry-same : id < length m.entries → entry_of (store m id v) id ≡ v
   unfolding entry_of
-  entry-same h = (get_or-set_same m.entries id v None h)
+  entry-same h = get_or-set_same m.entries id v None h
 
   entry_other : (k : ℕ) → (k ≡ id → ⊥) → entry_of (store m id v) k ≡ entry_of m k
   unfolding entry_of
-  entry_other k d = (get_or-set_other m.entries id k v None d)
+  entry_other k d = get_or-set_other m.entries id k v None d
 
 -- the first twelve slots hold the entries of the table's ids; the last one is for all other fields
 pub record Holds (slots : List Value) (m : ParameterMap) : Type 0 where
   pub thirteen : length slots ≡ 13
   pub each-byte : length m.entries ≡ 256
-  pub same : (j : ℕ) → j < 12 → slot_at slots j ≡ (entry_of m (id_at j))
+  pub same : (j : ℕ) → j < 12 → slot_at slots j ≡ entry_of m (id_at j)
 
 pub holds-none : Holds no_slots no_parameters
 unfolding no_parameters entry_of
@@ -87,8 +87,8 @@ holds-none =
 
 -- a store at a place, where the map changes at the id of that place alone
 module _ (slots : List Value) (m n : ParameterMap) (w : Holds slots m) (sized : length n.entries ≡ 256) (k : ℕ) (x : Value)
-    (here : k < 12 → x ≡ (entry_of n (id_at k))) (other : (j : ℕ) → j < 12 → (j ≡ k → ⊥) → entry_of n (id_at j) ≡ entry_of m (id_at j)) where
-  same_after : (j : ℕ) → j < 12 → slot_at (set slots k x) j ≡ (entry_of n (id_at j))
+    (here : k < 12 → x ≡ entry_of n (id_at k)) (other : (j : ℕ) → j < 12 → (j ≡ k → ⊥) → entry_of n (id_at j) ≡ entry_of m (id_at j)) where
+  same_after : (j : ℕ) → j < 12 → slot_at (set slots k x) j ≡ entry_of n (id_at j)
   same_after j h =
       by-test (eqb j k)
       (λ t.
@@ -96,10 +96,10 @@ module _ (slots : List Value) (m n : ParameterMap) (w : Holds slots m) (sized : 
       ap (λ (i : ℕ). slot_at (set slots i x) j) (sym e)
       ∙ get_or-set_same slots j x None (omega (arith, w.thirteen))
       ∙ here (omega arith)
-      ∙ ap (λ (i : ℕ). (entry_of n (id_at i))) (sym e))
+      ∙ ap (λ (i : ℕ). entry_of n (id_at i)) (sym e))
       (λ t.
       let d = eqb-false j k t in
-      get_or-set_other slots k j x None d ∙ w.same j h ∙ (sym (other j h d)))
+      get_or-set_other slots k j x None d ∙ w.same j h ∙ sym (other j h d))
 
   holds_after : Holds (set slots k x) n
   holds_after = record { thirteen = length-set slots k x ∙ w.thirteen; each-byte = sized; same = same_after }
@@ -129,7 +129,7 @@ module _ (slots : List Value) (m : ParameterMap) (w : Holds slots m) (f : Field)
       let n = store m id v in
       rw (has-place f.key0 id p, l)
       (holds_after slots m n w (length-set m.entries id v ∙ w.each-byte) (slot_of id) v
-      (λ h. sym ((ap (entry_of n) (slot-back id h) ∙ entry-same m id v (omega (arith, id-small (slot_of id) h, slot-back id h, w.each-byte)))))
+      (λ h. sym (ap (entry_of n) (slot-back id h) ∙ entry-same m id v (omega (arith, id-small (slot_of id) h, slot-back id h, w.each-byte))))
       (λ j h d. entry_other m id v (id_at j) (λ z. d (sym (slot-there j h) ∙ ap slot_of z))))
 
   holds-field : wrong_parameter f ≡ false → After (taken f m)
@@ -148,7 +148,7 @@ holds-stored (f ∷ fs) slots m w q =
 pub table-holds : (slots : List Value) (m : ParameterMap) → Holds slots m → table_from slots ≡ table_in m
 unfolding table_from table_in
 table-holds slots m w =
-    let e : (j : ℕ) → j < 12 → slot_at slots j ≡ (entry_of m (id_at j)) = w.same in
+    let e : (j : ℕ) → j < 12 → slot_at slots j ≡ entry_of m (id_at j) = w.same in
     rw (
       e 0 (omega arith),
       e 1 (omega arith),
@@ -172,4 +172,4 @@ module _ (v : List ℕ) where
 
   pub slot-four : length v ≡ 4 → (x : Value) → x ≡ number_in (get_or v 0 0 ∷ get_or v 1 0 ∷ get_or v 2 0 ∷ get_or v 3 0 ∷ []) → x ≡ slot_in v
   unfolding slot_in
-  slot-four l x q = rw (eq-eqb _ _ l) ((q ∙ ap number_in (all-elements 4 v l)))
+  slot-four l x q = rw (eq-eqb _ _ l) (q ∙ ap number_in (all-elements 4 v l))

@@ -1,41 +1,43 @@
 use native.Mathlib.Omega.{arith}
+use Rattle.voting.proofs.Laws.Tests.{early}
 use Rattle.extension.proofs.Laws.Body.{field-inside}
-use Rattle.walk.proofs.Laws.Walk.{met, refused-is, walk_begins, walk-update, walk-on, walk-cut, walk-wrong, walk-right}
+use Rattle.walk.proofs.Laws.Walk.{met, refused-is, walk-update, walk-on, walk-cut, walk-wrong, walk-right}
+use Rattle.walk.proofs.walk_fields.Goals.{then-seen-update_key, else-seen-update_key}
 use Rattle.walk.proofs.walk_fields.Goals as goal
 
-pub loop-left-init : goal.loop-left-init
-loop-left-init c = walk_begins _ _ _
+pub returns-in_err-f : goal.returns-in_err-f
+returns-in_err-f c = let e = met _ _ c.requires.0 _ _ c.field_at.ensures c.in_err-f.was in
+    refused-is _ _ (walk-cut _ _ _ _ _ _ _ _ _ _ c.loop.invariant c.requires.1 c.loop-test.true _ e) _ (early _ c.from_residual.ensures.1)
 
-pub overflow_sub-to : goal.overflow_sub-to
-overflow_sub-to c = let e = met _ _ c.requires.0 _ _ c.field_at.ensures c.in-HasField.is in
+pub overflow_sub-f : goal.overflow_sub-f
+overflow_sub-f c = let e = met _ _ c.requires.0 _ _ c.field_at.ensures c.in_ok-f.was in
     omega (arith, (field-inside _ _ _ e).size_is)
 
-pub slice_bounds-v-count : goal.slice_bounds-v-count
-slice_bounds-v-count c = let e = met _ _ c.requires.0 _ _ c.field_at.ensures c.in-HasField.is in
+pub slice_bounds-slot_in-count : goal.slice_bounds-slot_in-count
+slice_bounds-slot_in-count c = let e = met _ _ c.requires.0 _ _ c.field_at.ensures c.in_ok-f.was in
     omega (arith, (field-inside _ _ _ e).size_is)
 
-pub slice_bounds-v-start : goal.slice_bounds-v-start
-slice_bounds-v-start c = let e = met _ _ c.requires.0 _ _ c.field_at.ensures c.in-HasField.is in
+pub slice_bounds-slot_in-start : goal.slice_bounds-slot_in-start
+slice_bounds-slot_in-start c = let e = met _ _ c.requires.0 _ _ c.field_at.ensures c.in_ok-f.was in
     omega (arith, (field-inside _ _ _ e).size_is)
 
-pub slice_bounds-v-end : goal.slice_bounds-v-end
-slice_bounds-v-end c = let e = met _ _ c.requires.0 _ _ c.field_at.ensures c.in-HasField.is in
+pub slice_bounds-slot_in-end : goal.slice_bounds-slot_in-end
+slice_bounds-slot_in-end c = let e = met _ _ c.requires.0 _ _ c.field_at.ensures c.in_ok-f.was in
     omega (arith, (field-inside _ _ _ e).end-inside)
 
-pub loop-left-preserved-then-seen-update_key : goal.loop-left-preserved-then-seen-update_key
-loop-left-preserved-then-seen-update_key c = let e = met _ _ c.requires.0 _ _ c.field_at.ensures c.in-HasField.is in
-    walk-update _ _ _ _ _ _ _ _ _ _ c.loop-left.invariant c.loop-left-test.true _ e _ c.wrong_size-wrong.ensures _ c.place_of-k.ensures.0 _ c.slot_in.ensures _ c.update_key.ensures c.if-seen-update_key.true
-
-pub loop-left-preserved : goal.loop-left-preserved
-loop-left-preserved c = let e = met _ _ c.requires.0 _ _ c.field_at.ensures c.in-HasField.is in
-    walk-on _ _ _ _ _ _ _ _ _ _ c.loop-left.invariant c.loop-left-test.true _ e _ c.wrong_size-wrong.ensures _ c.place_of-k.ensures.0 _ c.slot_in.ensures _ c.update_key.ensures c.if-seen-update_key.false
-
-pub returns-in-NoField : goal.returns-in-NoField
-returns-in-NoField c = let e = met _ _ c.requires.0 _ _ c.field_at.ensures c.in-NoField.is in
-    refused-is _ _ (walk-cut _ _ _ _ _ _ _ _ _ _ c.loop-left.invariant c.requires.1 c.loop-left-test.true _ e) _ c.refused.ensures
+pub loop-preserved : goal.loop-preserved
+loop-preserved c = let e = met _ _ c.requires.0 _ _ c.field_at.ensures c.in_ok-f.was in
+    elim c.if-seen-update_key.branch [
+      | then-seen-update_key w ↦
+          rw (w.seen-is, w.start-is, w.end-is)
+          (walk-update _ _ _ _ _ _ _ _ _ _ c.loop.invariant c.loop-test.true _ e _ c.wrong_size-wrong.ensures _ c.place_of.ensures.0 _ c.slot_in.ensures _ c.update_key.ensures w.if-seen-update_key.true)
+      | else-seen-update_key w ↦
+          rw (w.seen-is, w.start-is, w.end-is)
+          (walk-on _ _ _ _ _ _ _ _ _ _ c.loop.invariant c.loop-test.true _ e _ c.wrong_size-wrong.ensures _ c.place_of.ensures.0 _ c.slot_in.ensures _ c.update_key.ensures w.if-seen-update_key.false)
+    ]
 
 pub returns-then-wrong : goal.returns-then-wrong
-returns-then-wrong c = walk-wrong _ _ _ _ _ _ _ _ _ _ c.loop-left.invariant c.requires.1 c.loop-left-test.false c.if-wrong.true _ c.refused-then-wrong.ensures _ c.no_entries.ensures
+returns-then-wrong c = walk-wrong _ _ _ _ _ _ _ _ _ _ c.loop.invariant c.requires.1 c.loop-test.false c.if-wrong.true
 
 pub returns : goal.returns
-returns c = walk-right _ _ _ _ _ _ _ _ _ _ c.loop-left.invariant c.requires.1 c.loop-left-test.false c.if-wrong.false _ c.read.ensures _ c.table_of.ensures
+returns c = walk-right _ _ _ _ _ _ _ _ _ _ c.loop.invariant c.requires.1 c.loop-test.false c.if-wrong.false _ c.table_of.ensures

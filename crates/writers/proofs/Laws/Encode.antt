@@ -1,11 +1,12 @@
 -- Settings updates written, item by item: the tests before, the sizes, and the stores.
 -- Assumes nothing.
-use Rattle.std.proofs.Common.{◌≡◌, ℕ, suc, ◌+◌, ◌-◌, ◌^◌, ◌<◌, ◌≤◌, Bool, true, false, cond, ◌&&◌, ◌||◌, eqb, ltb, List, [], ◌∷◌, ◌++◌, length, get_or, take, drop, set, ℤ, pos, negsuc, sym, refl, ap, ◌∙◌, append-nil, zero-add, add-one, arith, length-append, length-drop, drop_of_length-le, length-take-le, drop-cons, drop-drop, w16, SFits, to_z, of_z, ltb-false, le-ltb, lt-ltb, eq-eqb, ne_eqb, eqb-true}
+use Rattle.std.proofs.Common.{Err, ◌≡◌, ◌⊎◌, inl, inr, ℕ, suc, ◌+◌, ◌-◌, ◌^◌, ◌<◌, ◌≤◌, Bool, true, false, cond, ◌&&◌, ◌||◌, eqb, ltb, List, [], ◌∷◌, ◌++◌, length, get_or, take, drop, set, ℤ, pos, negsuc, sym, refl, ap, ◌∙◌, append-nil, zero-add, add-one, arith, length-append, length-drop, drop_of_length-le, length-take-le, drop-cons, drop-drop, w16, SFits, ltb-false, le-ltb, lt-ltb, eq-eqb, ne_eqb, eqb-true}
 use lib.Signed.{lt_z}
 use lib.Seq.{sets}
-use mir.ValLaws.{to_z-of_z}
 use Rattle.codec.specs.Output.{refused, writes, writing}
-use Rattle.codec.specs.Refusal.{update_unreadable, input_long, status_rule_low}
+use Rattle.codec.specs.declared.refusal.Refusal.{Refusal}
+use Rattle.codec.specs.Check.{passed}
+use Rattle.codec.specs.declared.refusal.Refusal.TheVariants.{UpdateUnreadable, InputLong, StatusRuleLow}
 use Rattle.codec.specs.Rule.{offset_of}
 use Rattle.codec.specs.Vlq.{vlq_bytes, shortest_of}
 use Rattle.codec.proofs.Laws.Output.{sets-append, writing-stop, writing-go}
@@ -13,15 +14,9 @@ use Rattle.codec.proofs.Laws.VlqTrip.{at-most-ten}
 use Rattle.voting.proofs.Laws.Tests.{both, neither}
 use Rattle.extension.specs.Section.{any}
 use Rattle.extension.specs.Update.{Status}
-use Rattle.extension.specs.Encode.{rules_bytes, status_bytes, statuses_bytes, encoded, status_list, sum, agree, low_rule, too_large, encode_refusal}
+use Rattle.extension.specs.Encode.{rules_bytes, status_bytes, statuses_bytes, encoded, status_list, sum, agree, low_rule, too_large, check_update}
 use Rattle.extension.proofs.Laws.Encode.{large_is}
 use Rattle.writers.specs.Encode.{statuses_size, encode_update, encode_rules}
-use Rattle.writers.proofs.Laws.Sizes.{sum-here}
-
--- the test of one rule id
-pub low-test : (id : ℤ) (b : Bool) → SFits w16 id → lt_z (to_z w16 (of_z w16 id)) (pos 1000) ≡ b → low_rule id ≡ b
-unfolding low_rule
-low-test id b f e = ap (λ (z : ℤ). lt_z z (pos 1000)) (sym (to_z-of_z w16 id f)) ∙ e
 
 -- a number of 16 bits is not above 32,767
 pub not-high : (id : ℤ) → SFits w16 id → lt_z (pos 32767) id ≡ false
@@ -46,24 +41,18 @@ module _ (rules : List ℕ) (i : ℕ) where
         → sets cells k (rules_bytes (drop i rules)) ≡ sets (sets cells k (vlq_bytes (get_or rules i 0))) (k + length (vlq_bytes (get_or rules i 0))) (rules_bytes (drop (i + 1) rules))
     rules-put cells k = rw rules-here (sets-append (vlq_bytes (get_or rules i 0)) (rules_bytes (drop (i + 1) rules)) cells k)
 
--- the size of the statuses, from a position on
-module _ (ids : List ℤ) (sizes : List ℕ) (i : ℕ) where
-  pub statuses-size-end : length ids ≤ i → statuses_size (drop i ids) (drop i sizes) ≡ 0
-  unfolding statuses_size
-  statuses-size-end h = rw (drop_of_length-le ids h)
+-- the size of the statuses: of one and the others, and where there is none
+pub statuses-size-next : {i j : ℤ} (n : ℕ) (ids : List ℤ) (sizes : List ℕ) → j ≡ i
+    → statuses_size (i ∷ ids) (n ∷ sizes) ≡ length (vlq_bytes (offset_of j)) + length (vlq_bytes n) + 1 + n + statuses_size ids sizes
+unfolding statuses_size
+statuses-size-next n ids sizes e = rw e
 
-  pub statuses-size-short : length sizes ≤ i → statuses_size (drop i ids) (drop i sizes) ≡ 0
-  unfolding statuses_size
-  statuses-size-short h = rw (drop_of_length-le sizes h) (go (drop i ids))
-    where
-      go : (xs : List ℤ) → statuses_size xs [] ≡ 0
-      go [] = refl
-      go (x ∷ xs) = refl
-
-  pub statuses-size-here : i < length ids → i < length sizes → {id : ℤ} → id ≡ get_or ids i (pos 0)
-      → statuses_size (drop i ids) (drop i sizes) ≡ length (vlq_bytes (offset_of id)) + length (vlq_bytes (get_or sizes i 0)) + 1 + get_or sizes i 0 + statuses_size (drop (i + 1) ids) (drop (i + 1) sizes)
-  unfolding statuses_size
-  statuses-size-here h k e = rw (e, drop-cons ids i (pos 0) h, drop-cons sizes i 0 k, add-one i)
+pub statuses-size-none : (ids : List ℤ) (sizes : List ℕ) → (ids ≡ []) ⊎ (sizes ≡ []) → statuses_size ids sizes ≡ 0
+unfolding statuses_size
+statuses-size-none [] sizes h = refl
+statuses-size-none (i ∷ ids) [] h = refl
+statuses-size-none (i ∷ ids) (n ∷ sizes) (inl e) = absurd (cc)
+statuses-size-none (i ∷ ids) (n ∷ sizes) (inr e) = absurd (cc)
 
 -- three runs of stores, one after another
 sets-three : (a b c cells : List ℕ) (at : ℕ) → sets (sets (sets cells at a) (at + length a) b) (at + length a + length b) c ≡ sets cells at (a ++ b ++ c)
@@ -102,46 +91,23 @@ agreed ids codes sizes raw e =
     let q = both (eqb (length codes) (length ids)) (eqb (length sizes) (length ids)) p.0 in
     (eqb-true (length codes) (length ids) q.0, eqb-true (length sizes) (length ids) q.1, eqb-true (sum sizes) (length raw) p.1)
 
--- the statuses, from a position of the lists and a position of the raw bytes on
-module _ (ids : List ℤ) (codes sizes raw : List ℕ) (i p : ℕ) where
-  pub statuses-end : length ids ≤ i → statuses_bytes (status_list (drop i ids) (drop i codes) (drop i sizes) (drop p raw)) ≡ []
-  unfolding status_list statuses_bytes
-  statuses-end h = rw (drop_of_length-le ids h)
+-- the statuses that are left, from a position of the raw bytes on: none, or one that is stored, and then the others
+pub statuses-end : (ids : List ℤ) (codes sizes raw : List ℕ) → length ids ≡ 0 → statuses_bytes (status_list ids codes sizes raw) ≡ []
+unfolding status_list statuses_bytes
+statuses-end [] codes sizes raw h = refl
+statuses-end (i ∷ ids) codes sizes raw h = absurd (omega arith)
 
-  module _ (a : agree ids codes sizes raw ≡ true) (h : i < length ids) (t : p + sum (drop i sizes) ≡ length raw) where
-    pub codes-too : i < length codes
-    codes-too = omega (arith, agreed ids codes sizes raw a)
-
-    pub sizes-too : i < length sizes
-    sizes-too = omega (arith, agreed ids codes sizes raw a)
-
-    pub raw-too : p + get_or sizes i 0 ≤ length raw
-    raw-too = omega (arith, sum-here sizes i sizes-too)
-
-    pub raw-left : p + get_or sizes i 0 + sum (drop (i + 1) sizes) ≡ length raw
-    raw-left = omega (arith, sum-here sizes i sizes-too)
-
-    abbrev here : Status
-    here = record { rule = get_or ids i (pos 0); code = get_or codes i 0; raw = take (get_or sizes i 0) (drop p raw) }
-
-    statuses-here : statuses_bytes (status_list (drop i ids) (drop i codes) (drop i sizes) (drop p raw))
-        ≡ status_bytes here ++ statuses_bytes (status_list (drop (i + 1) ids) (drop (i + 1) codes) (drop (i + 1) sizes) (drop (p + get_or sizes i 0) raw))
-    unfolding status_list statuses_bytes
-    statuses-here = rw (drop-cons ids i (pos 0) h, drop-cons codes i 0 codes-too, drop-cons sizes i 0 sizes-too, drop-drop (get_or sizes i 0) p raw, add-one i)
-
-    here-length : length (take (get_or sizes i 0) (drop p raw)) ≡ get_or sizes i 0
-    here-length = length-take-le (get_or sizes i 0) (drop p raw) (omega (arith, raw-too, length-drop p raw))
-
-    -- the status here is stored, and then the others
-    pub statuses-put : {id : ℤ} → id ≡ get_or ids i (pos 0) → {size : ℕ}
-        → size ≡ length (vlq_bytes (offset_of id)) + length (vlq_bytes (get_or sizes i 0)) + 1 + get_or sizes i 0 → (cells : List ℕ) (k : ℕ)
-        → sets cells k (statuses_bytes (status_list (drop i ids) (drop i codes) (drop i sizes) (drop p raw)))
-        ≡ sets (sets cells k (status_bytes (record { rule = id; code = get_or codes i 0; raw = take (p + get_or sizes i 0 - p) (drop p raw) }))) (k + size)
-        (statuses_bytes (status_list (drop (i + 1) ids) (drop (i + 1) codes) (drop (i + 1) sizes) (drop (p + get_or sizes i 0) raw)))
-    statuses-put e g cells k =
-        let f : p + get_or sizes i 0 - p ≡ get_or sizes i 0 = omega arith in
-        let l : length (status_bytes here) ≡ length (vlq_bytes (offset_of (get_or ids i (pos 0)))) + length (vlq_bytes (get_or sizes i 0)) + 1 + get_or sizes i 0 = status-length here ∙ rw here-length in
-        rw (statuses-here, g, e, f, ← l) (sets-append (status_bytes here) (statuses_bytes (status_list (drop (i + 1) ids) (drop (i + 1) codes) (drop (i + 1) sizes) (drop (p + get_or sizes i 0) raw))) cells k)
+pub statuses-put : (i : ℤ) (c n : ℕ) (ids : List ℤ) (codes sizes raw : List ℕ) (p : ℕ) → p + n ≤ length raw → {id : ℤ} → id ≡ i → {size : ℕ}
+    → size ≡ length (vlq_bytes (offset_of id)) + length (vlq_bytes n) + 1 + n → (cells : List ℕ) (k : ℕ)
+    → sets cells k (statuses_bytes (status_list (i ∷ ids) (c ∷ codes) (n ∷ sizes) (drop p raw)))
+    ≡ sets (sets cells k (status_bytes (record { rule = id; code = c; raw = take (p + n - p) (drop p raw) }))) (k + size) (statuses_bytes (status_list ids codes sizes (drop (p + n) raw)))
+unfolding status_list statuses_bytes
+statuses-put i c n ids codes sizes raw p h {id} e {size} g cells k =
+    let x : Status = record { rule = id; code = c; raw = take n (drop p raw) } in
+    let f : p + n - p ≡ n = omega arith in
+    let m : length (take n (drop p raw)) ≡ n = length-take-le n (drop p raw) (omega (arith, length-drop p raw)) in
+    let l : length (status_bytes x) ≡ size = status-length x ∙ rw m (sym g) in
+    rw (drop-drop n p raw, ← e, f, ← l) (sets-append (status_bytes x) (statuses_bytes (status_list ids codes sizes (drop (p + n) raw))) cells k)
 
 -- as many statuses as ids, and as many bytes as was counted
 pub statuses-count : (ids : List ℤ) (codes sizes raw : List ℕ) → length codes ≡ length ids → length sizes ≡ length ids → length (status_list ids codes sizes raw) ≡ length ids
@@ -165,49 +131,49 @@ statuses-length (i ∷ ids) (c ∷ codes) (n ∷ sizes) raw e f g =
 
 -- the refusal, test by test
 module _ (rules : List ℕ) (ids : List ℤ) (codes sizes raw : List ℕ) where
-  pub many-rules : 65536 < length rules → input_long ≡ encode_refusal rules ids codes sizes raw
-  unfolding encode_refusal too_large
+  pub many-rules : 65536 < length rules → Err InputLong ≡ check_update rules ids codes sizes raw
+  unfolding check_update too_large
   many-rules h = rw (lt-ltb 65536 (length rules) h)
 
   module _ (h₁ : length rules ≤ 65536) where
-    pub many-ids : 65536 < length ids → input_long ≡ encode_refusal rules ids codes sizes raw
-    unfolding encode_refusal too_large
+    pub many-ids : 65536 < length ids → Err InputLong ≡ check_update rules ids codes sizes raw
+    unfolding check_update too_large
     many-ids h = rw (le-ltb 65536 (length rules) h₁, lt-ltb 65536 (length ids) h)
 
     module _ (h₂ : length ids ≤ 65536) where
-      pub many-codes : 65536 < length codes → input_long ≡ encode_refusal rules ids codes sizes raw
-      unfolding encode_refusal too_large
+      pub many-codes : 65536 < length codes → Err InputLong ≡ check_update rules ids codes sizes raw
+      unfolding check_update too_large
       many-codes h = rw (le-ltb 65536 (length rules) h₁, le-ltb 65536 (length ids) h₂, lt-ltb 65536 (length codes) h)
 
       module _ (h₃ : length codes ≤ 65536) where
-        pub many-sizes : 65536 < length sizes → input_long ≡ encode_refusal rules ids codes sizes raw
-        unfolding encode_refusal too_large
+        pub many-sizes : 65536 < length sizes → Err InputLong ≡ check_update rules ids codes sizes raw
+        unfolding check_update too_large
         many-sizes h = rw (le-ltb 65536 (length rules) h₁, le-ltb 65536 (length ids) h₂, le-ltb 65536 (length codes) h₃, lt-ltb 65536 (length sizes) h)
 
         module _ (h₄ : length sizes ≤ 65536) where
           module _ {a : Bool} (q : a ≡ any (ltb 65535) sizes) where
-            pub large-size : a ≡ true → input_long ≡ encode_refusal rules ids codes sizes raw
-            unfolding encode_refusal
+            pub large-size : a ≡ true → Err InputLong ≡ check_update rules ids codes sizes raw
+            unfolding check_update
             large-size e = rw (large_is rules ids codes sizes h₁ h₂ h₃ h₄, ← q, e)
 
             module _ (h₅ : a ≡ false) {b : Bool} (r : b ≡ any low_rule ids) where
-              pub low-rule : b ≡ true → status_rule_low ≡ encode_refusal rules ids codes sizes raw
-              unfolding encode_refusal
+              pub low-rule : b ≡ true → Err StatusRuleLow ≡ check_update rules ids codes sizes raw
+              unfolding check_update
               low-rule e = rw (large_is rules ids codes sizes h₁ h₂ h₃ h₄, ← q, h₅, ← r, e)
 
               module _ (h₆ : b ≡ false) where
-                pub codes-differ : (length codes ≡ length ids → ⊥) → update_unreadable ≡ encode_refusal rules ids codes sizes raw
-                unfolding encode_refusal agree
+                pub codes-differ : (length codes ≡ length ids → ⊥) → Err UpdateUnreadable ≡ check_update rules ids codes sizes raw
+                unfolding check_update agree
                 codes-differ h = rw (large_is rules ids codes sizes h₁ h₂ h₃ h₄, ← q, h₅, ← r, h₆, ne_eqb (length codes) (length ids) h)
 
                 module _ (h₇ : length codes ≡ length ids) where
-                  pub sizes-differ : (length sizes ≡ length ids → ⊥) → update_unreadable ≡ encode_refusal rules ids codes sizes raw
-                  unfolding encode_refusal agree
+                  pub sizes-differ : (length sizes ≡ length ids → ⊥) → Err UpdateUnreadable ≡ check_update rules ids codes sizes raw
+                  unfolding check_update agree
                   sizes-differ h = rw (large_is rules ids codes sizes h₁ h₂ h₃ h₄, ← q, h₅, ← r, h₆, eq-eqb (length codes) (length ids) h₇, ne_eqb (length sizes) (length ids) h)
 
                   module _ (h₈ : length sizes ≡ length ids) {n : ℕ} (s : n ≡ sum sizes) where
-                    pub raw-differs : (n ≡ length raw → ⊥) → update_unreadable ≡ encode_refusal rules ids codes sizes raw
-                    unfolding encode_refusal agree
+                    pub raw-differs : (n ≡ length raw → ⊥) → Err UpdateUnreadable ≡ check_update rules ids codes sizes raw
+                    unfolding check_update agree
                     raw-differs h = rw (large_is rules ids codes sizes h₁ h₂ h₃ h₄, ← q, h₅, ← r, h₆, eq-eqb (length codes) (length ids) h₇, eq-eqb (length sizes) (length ids) h₈, ← s, ne_eqb n (length raw) h)
 
 -- what no refusal says
@@ -219,15 +185,15 @@ pub record Accepted (rules : List ℕ) (ids : List ℤ) (codes sizes raw : List 
   pub agrees : agree ids codes sizes raw ≡ true
 
 module _ (rules : List ℕ) (ids : List ℤ) (codes sizes raw : List ℕ) where
-  pub accepted : {e : ℕ} → e ≡ encode_refusal rules ids codes sizes raw → e ≡ 0 → Accepted rules ids codes sizes raw
-  unfolding encode_refusal too_large
-  accepted q z = go (too_large rules ids codes sizes) (any low_rule ids) (agree ids codes sizes raw) refl refl refl (sym q ∙ z)
+  pub accepted : check_update rules ids codes sizes raw ≡ passed → Accepted rules ids codes sizes raw
+  unfolding check_update too_large
+  accepted = go (too_large rules ids codes sizes) (any low_rule ids) (agree ids codes sizes raw) refl refl refl
     where
       go : (a b c : Bool) → too_large rules ids codes sizes ≡ a → any low_rule ids ≡ b → agree ids codes sizes raw ≡ c
-          → cond a input_long (cond b status_rule_low (cond c 0 update_unreadable)) ≡ 0 → Accepted rules ids codes sizes raw
-      go true b c p q r e = absurd (omega arith)
-      go false true c p q r e = absurd (omega arith)
-      go false false false p q r e = absurd (omega arith)
+          → cond a (Err InputLong) (cond b (Err StatusRuleLow) (cond c passed (Err UpdateUnreadable))) ≡ passed → Accepted rules ids codes sizes raw
+      go true b c p q r e = cc
+      go false true c p q r e = cc
+      go false false false p q r e = cc
       go false false true p q r e =
           let t₁ = neither (ltb 65536 (length rules) || ltb 65536 (length ids) || ltb 65536 (length codes) || ltb 65536 (length sizes)) (any (ltb 65535) sizes) p in
           let t₂ = neither (ltb 65536 (length rules) || ltb 65536 (length ids) || ltb 65536 (length codes)) (ltb 65536 (length sizes)) t₁.0 in
@@ -242,13 +208,13 @@ module _ (rules : List ℕ) (ids : List ℤ) (codes sizes raw : List ℕ) where
           }
 
   -- the outcome of a refusal, and of none
-  pub update-refused : {e : ℕ} → e ≡ encode_refusal rules ids codes sizes raw → (e ≡ 0 → ⊥) → (cells : List ℕ) → refused e cells ≡ encode_update rules ids codes sizes raw cells
+  pub update-refused : (e : Refusal) → check_update rules ids codes sizes raw ≡ Err e → (cells : List ℕ) → refused e cells ≡ encode_update rules ids codes sizes raw cells
   unfolding encode_update
-  update-refused q h cells = rw q (writing-stop (encoded rules (status_list ids codes sizes raw)) cells (encode_refusal rules ids codes sizes raw) (λ z. h (q ∙ z)))
+  update-refused e q cells = writing-stop (encoded rules (status_list ids codes sizes raw)) cells (check_update rules ids codes sizes raw) e q
 
-  pub update-written : {e : ℕ} → e ≡ encode_refusal rules ids codes sizes raw → e ≡ 0 → (cells : List ℕ) → writes (encoded rules (status_list ids codes sizes raw)) cells ≡ encode_update rules ids codes sizes raw cells
+  pub update-written : check_update rules ids codes sizes raw ≡ passed → (cells : List ℕ) → writes (encoded rules (status_list ids codes sizes raw)) cells ≡ encode_update rules ids codes sizes raw cells
   unfolding encode_update
-  update-written q z cells = sym (writing-go (encoded rules (status_list ids codes sizes raw)) cells (encode_refusal rules ids codes sizes raw) (sym q ∙ z))
+  update-written q cells = sym (writing-go (encoded rules (status_list ids codes sizes raw)) cells (check_update rules ids codes sizes raw) q)
 
   -- its bytes: how many, and in which order they are stored
   module _ (a : agree ids codes sizes raw ≡ true) {f r k : ℕ} (pf : f ≡ length (vlq_bytes (length rules))) (pr : r ≡ length (rules_bytes rules)) (pk : k ≡ length (vlq_bytes (length ids))) where
@@ -290,7 +256,7 @@ unfolding encoded statuses_bytes
 no-statuses rules = append-nil (vlq_bytes (length rules) ++ rules_bytes rules ++ vlq_bytes 0) ∙ ap (λ (b : List ℕ). vlq_bytes (length rules) ++ rules_bytes rules ++ b) zero-bytes
 
 module _ (rules cells : List ℕ) where
-  pub rules-refused : 65536 < length rules → refused input_long cells ≡ encode_rules rules cells
+  pub rules-refused : 65536 < length rules → refused InputLong cells ≡ encode_rules rules cells
   unfolding encode_rules writing
   rules-refused h = rw (lt-ltb 65536 (length rules) h)
 

@@ -5,18 +5,18 @@ use lib.Signed.{lt_z}
 use lib.Seq.{take-append_seam}
 use Rattle.codec.specs.Vlq.{vlq_at, vlq_bytes}
 use Rattle.codec.specs.Rule.{offset_of}
-use Rattle.std.specs.Prelude.{Some}
+use Rattle.std.specs.Prelude.{Some, Ok}
+use Rattle.codec.specs.Check.{Check, passed}
 use Rattle.codec.proofs.Laws.Rule.{offset-fits, rule-back}
 use Rattle.codec.proofs.Laws.VlqTrip.{written-read-at, read-inside}
 use Rattle.voting.specs.Common.{Each}
 use Rattle.voting.proofs.Laws.Tests.{neither}
 use Rattle.extension.specs.declared.update.Update.{Update}
-use Rattle.extension.specs.declared.update.ParsedUpdate.{ParsedUpdate}
 use Rattle.extension.specs.Section.{Reading, got, Listing, done, item, after, listing, items, closed, section, section_items, any}
 use Rattle.extension.specs.Mandatory.{mandatory_rule}
-use Rattle.extension.specs.Update.{Status, placed_rule, rule_at, rule_reading, read_rule, placed_status, offset_then, status_at, status_reading, read_status, count_in, items_from, with_statuses, with_rules, update_of, rules_in, statuses_in}
+use Rattle.extension.specs.Update.{Status, placed_rule, rule_at, rule_reading, read_rule, placed_status, offset_then, status_at, status_reading, read_status, count_in, items_from, with_rules, update_of, rules_in, statuses_in}
 use Rattle.extension.proofs.Laws.Parts.{drop_past}
-use Rattle.extension.specs.Encode.{rules_bytes, status_bytes, statuses_bytes, encoded, status_list, low_rule, encode_refusal}
+use Rattle.extension.specs.Encode.{rules_bytes, status_bytes, statuses_bytes, encoded, status_list, low_rule, check_update}
 use Rattle.writers.specs.Encode.{EncodedAgain}
 use Rattle.writers.proofs.Laws.Sizes.{take-most}
 use Rattle.writers.proofs.Laws.Encode.{status-length, agreed, statuses-count, accepted}
@@ -31,7 +31,7 @@ unfolding items
 items-listed [] end = refl
 items-listed {A} (x ∷ xs) end = ap (λ (ys : List A). x ∷ ys) (items-listed xs end)
 
-closed-listed : {A : Type 0} (n begin : ℕ) (xs : List A) (end : ℕ) → closed n begin (listed xs end) ≡ record { refusal = 0; section = section n begin end }
+closed-listed : {A : Type 0} (n begin : ℕ) (xs : List A) (end : ℕ) → closed n begin (listed xs end) ≡ Ok (section n begin end)
 unfolding closed
 closed-listed n begin [] end = refl
 closed-listed n begin (x ∷ xs) end = closed-listed n begin xs end
@@ -39,7 +39,7 @@ closed-listed n begin (x ∷ xs) end = closed-listed n begin xs end
 -- a count, and then as many items
 counted : {A : Type 0} (read : ℕ → Reading A) (xs : List A) (s t : List ℕ) (at end : ℕ) → length xs ≤ 65536 → drop at s ≡ vlq_bytes (length xs) ++ t
     → listing read (length xs) (at + length (vlq_bytes (length xs))) ≡ listed xs end
-    → items_from read (vlq_at 32 s at) ≡ record { refusal = 0; section = section (length xs) (at + length (vlq_bytes (length xs))) end }
+    → items_from read (vlq_at 32 s at) ≡ Ok (section (length xs) (at + length (vlq_bytes (length xs))) end)
 unfolding items_from count_in
 counted read xs s t at end h e l =
     rw (written-read-at 32 (length xs) at s t (omega arith) (omega arith) e, lt-ltb (length xs) (2 ^ 31) (omega arith), l)
@@ -165,8 +165,8 @@ module _ (rules : List ℕ) (statuses : List Status) (small : Each (λ r. r < 65
   unfolding statuses_in section_items
   read-statuses = ap items statuses-are ∙ items-listed statuses e₂
 
-  read-update : length s ≤ 65536 → any mandatory_rule rules ≡ false → update_of s ≡ record { refusal = 0; update = u }
-  unfolding update_of with_rules with_statuses rules_in
+  read-update : length s ≤ 65536 → any mandatory_rule rules ≡ false → update_of s ≡ Ok u
+  unfolding update_of with_rules rules_in
   read-update h m =
       rw (
         le-ltb 65536 (length s) h,
@@ -180,9 +180,10 @@ module _ (rules : List ℕ) (statuses : List Status) (small : Each (λ r. r < 65
   pub encoded-again : EncodedAgain rules statuses
   encoded-again h m =
       record {
-        parsed = ap (λ (p : ParsedUpdate). p.refusal) (read-update h m);
-        same-rules = ap (λ (p : ParsedUpdate). rules_in s p.update) (read-update h m) ∙ read-rules;
-        same-statuses = ap (λ (p : ParsedUpdate). statuses_in s p.update) (read-update h m) ∙ read-statuses;
+        update = u;
+        parsed = read-update h m;
+        same-rules = read-rules;
+        same-statuses = read-statuses;
       }
 
 -- what the writer's types and tests say of its rules and statuses
@@ -206,10 +207,10 @@ pub rules-back : (rules : List ℕ) → ((i : ℕ) → get_or rules i 0 < 65536)
 rules-back rules small h = encoded-again rules [] (each-small rules small) h tt (omega arith)
 
 pub update-back : (rules : List ℕ) (ids : List ℤ) (codes sizes raw : List ℕ) → ((i : ℕ) → get_or rules i 0 < 65536)
-    → {e : ℕ} → e ≡ encode_refusal rules ids codes sizes raw → (e ≡ 0 → any (lt_z (pos 32767)) ids ≡ false)
-    → encode_refusal rules ids codes sizes raw ≡ 0 → EncodedAgain rules (status_list ids codes sizes raw)
+    → {r : Check} → r ≡ check_update rules ids codes sizes raw → (r ≡ passed → any (lt_z (pos 32767)) ids ≡ false)
+    → check_update rules ids codes sizes raw ≡ passed → EncodedAgain rules (status_list ids codes sizes raw)
 update-back rules ids codes sizes raw small q fit z =
-    let g = accepted rules ids codes sizes raw q (q ∙ z) in
+    let g = accepted rules ids codes sizes raw z in
     let a = agreed ids codes sizes raw g.agrees in
     encoded-again rules (status_list ids codes sizes raw) (each-small rules small) g.few-rules
     (statuses-fit ids codes sizes raw g.none-low (fit (q ∙ z)) g.none-large)

@@ -1,78 +1,80 @@
 -- Fields written from lists: the tests before, the stores one field after another, and a list of fields that is walked gives the same fields.
 -- Assumes nothing.
-use Rattle.std.proofs.Common.{◌≡◌, ℕ, zero, suc, ◌+◌, ◌-◌, ◌*◌, ◌<◌, ◌≤◌, Bool, true, false, cond, not, eqb, ltb, List, [], ◌∷◌, ◌++◌, length, get_or, take, drop, sym, refl, ap, ◌∙◌, add-zero, add-one, sub-one, arith, length-append, length-drop, drop_of_length-le, length-take-le, get_or-drop, drop-cons, drop-drop, ltb-false, le-ltb, lt-ltb, eq-eqb, ne_eqb, eqb-true}
+use Rattle.std.proofs.Common.{Err, ◌≡◌, ℕ, zero, suc, ◌+◌, ◌-◌, ◌*◌, ◌<◌, ◌≤◌, Bool, true, false, cond, not, eqb, ltb, List, [], ◌∷◌, ◌++◌, length, get_or, take, drop, sym, refl, ap, ◌∙◌, add-zero, add-one, sub-one, arith, length-append, length-drop, drop_of_length-le, length-take-le, get_or-drop, drop-cons, drop-drop, ltb-false, le-ltb, lt-ltb, eq-eqb, ne_eqb, eqb-true}
 use mathlib.Core.Path.{subst⁻¹}
 use lib.Seq.{take-append_seam, sets}
-use Rattle.codec.specs.Refusal.{field_header_cut, value_cut, input_long, written_value_long}
+use Rattle.codec.specs.declared.refusal.Refusal.{Refusal}
+use Rattle.codec.specs.Check.{passed}
+use Rattle.codec.specs.declared.refusal.Refusal.TheVariants.{FieldHeaderCut, ValueCut, InputLong, WrittenValueLong}
 use Rattle.codec.specs.Output.{refused, writes}
 use Rattle.codec.proofs.Laws.Output.{sets-append, writing-stop, writing-go}
 use Rattle.voting.proofs.Laws.Tests.{neither}
-use Rattle.extension.specs.Section.{items, refusal_of, any}
+use Rattle.extension.specs.Section.{items, all_read, any}
 use Rattle.extension.specs.Body.{Field}
 use Rattle.extension.specs.Encode.{sum}
 use Rattle.extension.specs.Pack.{wire_list, wire_fields, long_value}
 use Rattle.extension.proofs.Laws.Parts.{drop_past}
 use Rattle.extension.proofs.Laws.Pack.{size_at, field_there, wire-here, wire-item}
 use Rattle.extension.proofs.Laws.PackTrip.{Lists, wire-past}
-use Rattle.writers.specs.Fields.{field_list, field_bytes, fields_bytes, long_size, fields_refusal, pack_fields}
+use Rattle.writers.specs.Fields.{field_list, field_bytes, fields_bytes, long_size, check_lists, pack_fields}
 use Rattle.writers.proofs.Laws.Sizes.{none_above, sum-here, take-most}
 
 -- the refusal, test by test
 module _ (keys sizes values : List ℕ) where
-  pub many-sizes : 65536 < length sizes → input_long ≡ fields_refusal keys sizes values
-  unfolding fields_refusal
+  pub many-sizes : 65536 < length sizes → Err InputLong ≡ check_lists keys sizes values
+  unfolding check_lists
   many-sizes h = rw (lt-ltb 65536 (length sizes) h)
 
   module _ (h₁ : length sizes ≤ 65536) {a : Bool} (q : a ≡ any long_size sizes) where
-    pub long-size : a ≡ true → written_value_long ≡ fields_refusal keys sizes values
-    unfolding fields_refusal
+    pub long-size : a ≡ true → Err WrittenValueLong ≡ check_lists keys sizes values
+    unfolding check_lists
     long-size e = rw (le-ltb 65536 (length sizes) h₁, ← q, e)
 
     module _ (h₂ : a ≡ false) where
-      pub keys-differ : (length keys ≡ 2 * length sizes → ⊥) → field_header_cut ≡ fields_refusal keys sizes values
-      unfolding fields_refusal
+      pub keys-differ : (length keys ≡ 2 * length sizes → ⊥) → Err FieldHeaderCut ≡ check_lists keys sizes values
+      unfolding check_lists
       keys-differ h = rw (le-ltb 65536 (length sizes) h₁, ← q, h₂, ne_eqb (length keys) (2 * length sizes) h)
 
       module _ (h₃ : length keys ≡ 2 * length sizes) {b : Bool} (r : b ≡ eqb (sum sizes) (length values)) where
-        pub values-differ : b ≡ false → value_cut ≡ fields_refusal keys sizes values
-        unfolding fields_refusal
+        pub values-differ : b ≡ false → Err ValueCut ≡ check_lists keys sizes values
+        unfolding check_lists
         values-differ e = rw (le-ltb 65536 (length sizes) h₁, ← q, h₂, eq-eqb (length keys) (2 * length sizes) h₃, ← r, e)
 
-        pub none-differs : b ≡ true → 0 ≡ fields_refusal keys sizes values
-        unfolding fields_refusal
+        pub none-differs : b ≡ true → passed ≡ check_lists keys sizes values
+        unfolding check_lists
         none-differs e = rw (le-ltb 65536 (length sizes) h₁, ← q, h₂, eq-eqb (length keys) (2 * length sizes) h₃, ← r, e)
 
 -- a size that is not too long fits a length byte
-pub size_fits : (n : ℕ) → long_size n ≡ false → n ≤ 255
+size_fits : (n : ℕ) → long_size n ≡ false → n ≤ 255
 size_fits n e = omega (arith, ltb-false)
 
 -- what no refusal says
 abbrev pub Fitting : List ℕ → List ℕ → List ℕ → Type 0
 Fitting keys sizes values = (length sizes ≤ 65536) × (any long_size sizes ≡ false) × (length keys ≡ 2 * length sizes) × (sum sizes ≡ length values)
 
-pub fitting : (keys sizes values : List ℕ) → fields_refusal keys sizes values ≡ 0 → Fitting keys sizes values
-unfolding fields_refusal
+pub fitting : (keys sizes values : List ℕ) → check_lists keys sizes values ≡ passed → Fitting keys sizes values
+unfolding check_lists
 fitting keys sizes values =
     go (ltb 65536 (length sizes)) (any long_size sizes) (eqb (length keys) (2 * length sizes)) (eqb (sum sizes) (length values)) refl refl refl refl
   where
     go : (a b c d : Bool) → ltb 65536 (length sizes) ≡ a → any long_size sizes ≡ b → eqb (length keys) (2 * length sizes) ≡ c → eqb (sum sizes) (length values) ≡ d
-        → cond a input_long (cond b written_value_long (cond (not c) field_header_cut (cond (not d) value_cut 0))) ≡ 0 → Fitting keys sizes values
-    go true b c d p q r s e = absurd (omega arith)
-    go false true c d p q r s e = absurd (omega arith)
-    go false false false d p q r s e = absurd (omega arith)
-    go false false true false p q r s e = absurd (omega arith)
+        → cond a (Err InputLong) (cond b (Err WrittenValueLong) (cond (not c) (Err FieldHeaderCut) (cond (not d) (Err ValueCut) passed))) ≡ passed → Fitting keys sizes values
+    go true b c d p q r s e = cc
+    go false true c d p q r s e = cc
+    go false false false d p q r s e = cc
+    go false false true false p q r s e = cc
     go false false true true p q r s e =
         (ltb-false 65536 (length sizes) p, q, eqb-true (length keys) (2 * length sizes) r, eqb-true (sum sizes) (length values) s)
 
 -- the outcome of a refusal, and of none
-module _ (keys sizes values : List ℕ) {e : ℕ} (q : e ≡ fields_refusal keys sizes values) (cells : List ℕ) where
-  pub fields-refused : (e ≡ 0 → ⊥) → refused e cells ≡ pack_fields keys sizes values cells
+module _ (keys sizes values cells : List ℕ) where
+  pub fields-refused : (e : Refusal) → check_lists keys sizes values ≡ Err e → refused e cells ≡ pack_fields keys sizes values cells
   unfolding pack_fields
-  fields-refused h = rw q (writing-stop (fields_bytes (field_list keys sizes values)) cells (fields_refusal keys sizes values) (λ z. h (q ∙ z)))
+  fields-refused e q = writing-stop (fields_bytes (field_list keys sizes values)) cells (check_lists keys sizes values) e q
 
-  pub fields-written : e ≡ 0 → writes (fields_bytes (field_list keys sizes values)) cells ≡ pack_fields keys sizes values cells
+  pub fields-written : check_lists keys sizes values ≡ passed → writes (fields_bytes (field_list keys sizes values)) cells ≡ pack_fields keys sizes values cells
   unfolding pack_fields
-  fields-written z = sym (writing-go (fields_bytes (field_list keys sizes values)) cells (fields_refusal keys sizes values) (sym q ∙ z))
+  fields-written q = sym (writing-go (fields_bytes (field_list keys sizes values)) cells (check_lists keys sizes values) q)
 
 -- the stores of one field: its key and its length, and its value
 pub field_put : (cells : List ℕ) (at a b : ℕ) (value : List ℕ) {x y : List ℕ} → x ≡ sets cells at (a ∷ b ∷ length value ∷ []) → y ≡ sets x (at + 3) value
@@ -197,7 +199,7 @@ module _ (s : List ℕ) (at : ℕ) (f : Field) (rest : List ℕ) (here : drop at
       omega (arith, length-drop at s, e, field-length f)
 
   wire-field : (k : ℕ) (fs : List Field) → Lists fs (wire_list k s next) → Lists (f ∷ fs) (wire_list (suc k) s at)
-  unfolding items refusal_of
+  unfolding items all_read
   wire-field k fs r =
       let n : at + 3 + size_at s at ≡ next = omega (arith, field-size) in
       let w = wire-here s at (omega (arith, field-size, field_room)) in

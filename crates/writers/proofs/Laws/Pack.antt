@@ -1,31 +1,30 @@
 -- Bodies and parameters written: the walk over a list of fields, and the bytes of parameters one after another.
 -- Assumes nothing.
-use Rattle.std.proofs.Common.{◌≡◌, ℕ, zero, suc, ◌+◌, ◌-◌, ◌*◌, ◌%◌, ◌<◌, ◌≤◌, Bool, true, false, cond, ◌||◌, eqb, ltb, List, [], ◌++◌, length, ℤ, sym, refl, ap, ◌∙◌, add-zero, zero-add, sub-one, arith, length-append, le-ltb, lt-ltb, eq-eqb, ne_eqb}
+use Rattle.std.proofs.Common.{◌≡◌, ℕ, zero, suc, ◌+◌, ◌-◌, ◌*◌, ◌%◌, ◌<◌, ◌≤◌, Bool, true, false, cond, ◌||◌, eqb, ltb, List, [], ◌++◌, length, ℤ, sym, refl, ap, ◌∙◌, add-zero, zero-add, arith, length-append, ltb-true, ltb-false, le-ltb, lt-ltb, eq-eqb, ne_eqb}
 use lib.Seq.{sets}
-use Rattle.codec.specs.Refusal.{field_header_cut, value_cut, input_long, written_value_long, output_short}
+use Rattle.codec.specs.declared.refusal.Refusal.{Refusal}
+use Rattle.codec.specs.Check.{Check, passed}
+use Rattle.codec.specs.declared.refusal.Refusal.TheVariants.{FieldHeaderCut, ValueCut, InputLong, WrittenValueLong, OutputShort}
 use Rattle.codec.specs.Vlq.{vlq_bytes}
 use Rattle.codec.specs.BigEndian.{big_endian_bytes}
-use Rattle.codec.specs.Output.{wrote, refused, writes, writing}
+use Rattle.codec.specs.Output.{wrote, refused, writes}
 use Rattle.codec.proofs.Laws.Output as output
 use Rattle.voting.specs.Value.{Value}
-use Rattle.std.specs.Prelude.{None, Some}
+use Rattle.std.specs.Prelude.{None, Some, Err}
+use Rattle.voting.proofs.Laws.Tests.{by-test}
 use Rattle.extension.specs.declared.parameters.ParameterMap.{ParameterMap}
-use Rattle.extension.specs.Section.{Listing, done, stop, item, items, refusal_of, any}
+use Rattle.extension.specs.Section.{bad, Listing, done, stop, item, items, all_read, any}
 use Rattle.extension.specs.Body.{Field}
 use Rattle.extension.specs.Parameters.{entry_of}
-use Rattle.extension.specs.Pack.{wire_list, wire_fields, long_value, pack_refusal, packed}
+use Rattle.extension.specs.Pack.{wire_at, wire_list, wire_fields, long_value, check_fields, packed}
 use Rattle.extension.proofs.Laws.Pack.{size_at, field_there, wire-header-cut, wire-value-cut, wire-here, value-length, wire-none, wire-end, wire-stop, wire-item}
 use Rattle.writers.specs.declared.pack.Survey.{Survey}
-use Rattle.writers.specs.Survey.{surveyed, survey_refusal}
+use Rattle.writers.specs.Survey.{surveyed, check_survey}
 use Rattle.writers.specs.Pack.{pack_extension, number_bytes, entry_bytes, entries_from}
 
 -- the survey of a list of fields, after so many fields before it, of which one was long or none
 unfoldable pub surveyed_on : ℕ → Bool → Listing Field → Survey
-surveyed_on n t l = record { count = n + length (items l); long = t || any long_value (items l); cut = refusal_of l }
-
-pub survey-start : (s : List ℕ) → surveyed_on 0 false (wire_list (length s) s 0) ≡ surveyed (wire_fields s)
-unfolding surveyed_on surveyed wire_fields
-survey-start s = rw (zero-add (length (items (wire_list (length s) s 0))))
+surveyed_on n t l = record { count = n + length (items l); long = t || any long_value (items l); whole = all_read l }
 
 or-none : (t : Bool) → t || false ≡ t
 or-none true = refl
@@ -35,75 +34,90 @@ or-first : (t u v : Bool) → (t || u) || v ≡ t || (u || v)
 or-first true u v = refl
 or-first false u v = refl
 
-survey-done : (n : ℕ) (t : Bool) (at : ℕ) → surveyed_on n t (done at) ≡ record { count = n; long = t; cut = 0 }
-unfolding surveyed_on items any refusal_of
+survey-done : (n : ℕ) (t : Bool) (at : ℕ) → surveyed_on n t (done at) ≡ record { count = n; long = t; whole = passed }
+unfolding surveyed_on items any all_read
 survey-done n t at = rw (or-none t, add-zero n)
 
-survey-stop : (n : ℕ) (t : Bool) (e : ℕ) → surveyed_on n t (stop e) ≡ record { count = n; long = t; cut = e }
-unfolding surveyed_on items any refusal_of
+survey-stop : (n : ℕ) (t : Bool) (e : Refusal) → surveyed_on n t (stop e) ≡ record { count = n; long = t; whole = Err e }
+unfolding surveyed_on items any all_read
 survey-stop n t e = rw (or-none t, add-zero n)
 
 survey-item : (n : ℕ) (t : Bool) (f : Field) (l : Listing Field) → surveyed_on n t (item f l) ≡ surveyed_on (n + 1) (t || long_value f) l
-unfolding surveyed_on items any refusal_of
+unfolding surveyed_on items any all_read
 survey-item n t f l =
     let e : n + suc (length (items l)) ≡ n + 1 + length (items l) = omega arith in
     rw (or-first t (long_value f) (any long_value (items l)), e)
 
+-- the survey from a position on, after so many fields before it: a list has fewer fields than bytes
+abbrev pub walk : List ℕ → ℕ → ℕ → Bool → Survey
+walk s at count long = surveyed_on count long (wire_list (length s - count) s at)
+
 -- the ways of the walk
-module _ (s : List ℕ) (left at count : ℕ) (long : Bool) where
-  pub walk_none : left ≤ 0 → surveyed_on count long (wire_list left s at) ≡ record { count = count; long = long; cut = 0 }
-  walk_none h = ap (surveyed_on count long) (wire-none s left at h) ∙ survey-done count long at
+module _ (s : List ℕ) where
+  pub walk-start : walk s 0 0 false ≡ surveyed (wire_fields s)
+  unfolding surveyed_on surveyed wire_fields
+  walk-start = let e : length s - 0 ≡ length s = omega arith in rw (e, zero-add (length (items (wire_list (length s) s 0))))
 
-  module _ (h : 0 < left) where
-    pub walk_end : length s ≤ at → surveyed_on count long (wire_list left s at) ≡ record { count = count; long = long; cut = 0 }
-    walk_end l = ap (surveyed_on count long) (wire-end s left at h l) ∙ survey-done count long at
+  module _ (at count : ℕ) (long : Bool) where
+    pub walk_end : length s ≤ at → walk s at count long ≡ record { count = count; long = long; whole = passed }
+    walk_end h = ap (surveyed_on count long) ends ∙ survey-done count long at
+      where
+        ends : wire_list (length s - count) s at ≡ done at
+        ends =
+            by-test (ltb 0 (length s - count)) (λ e. wire-end s (length s - count) at (ltb-true 0 (length s - count) e) h)
+            (λ e. wire-none s (length s - count) at (ltb-false 0 (length s - count) e))
 
-    module _ (l : at < length s) where
-      pub walk-header-cut : length s - at < 3 → surveyed_on count long (wire_list left s at) ≡ record { count = count; long = long; cut = 3 }
-      walk-header-cut k = ap (surveyed_on count long) (wire-stop s left at h l field_header_cut (wire-header-cut s at (omega arith))) ∙ survey-stop count long 3
+    module _ (few : count ≤ at) (h : at < length s) where
+      walk-stop : (e : Refusal) → wire_at s at ≡ bad e → walk s at count long ≡ record { count = count; long = long; whole = Err e }
+      walk-stop e q = ap (surveyed_on count long) (wire-stop s (length s - count) at (omega arith) h e q) ∙ survey-stop count long e
 
-      pub walk-value-cut : 3 ≤ length s - at → length s - at - 3 < size_at s at → surveyed_on count long (wire_list left s at) ≡ record { count = count; long = long; cut = 5 }
-      walk-value-cut k m = ap (surveyed_on count long) (wire-stop s left at h l value_cut (wire-value-cut s at (omega arith) (omega arith))) ∙ survey-stop count long 5
+      pub walk-header-cut : length s - at < 3 → walk s at count long ≡ record { count = count; long = long; whole = Err FieldHeaderCut }
+      walk-header-cut k = walk-stop FieldHeaderCut (wire-header-cut s at (omega arith))
 
-      pub walk_field : 3 ≤ length s - at → size_at s at ≤ length s - at - 3
-          → surveyed_on count long (wire_list left s at) ≡ surveyed_on (count + 1) (long || ltb 64 (size_at s at)) (wire_list (left - 1) s (at + 3 + size_at s at))
-      unfolding long_value
-      walk_field k m =
-          let i : at + 3 + size_at s at ≤ length s = omega arith in
-          ap (surveyed_on count long) (wire-item s left at h l (field_there s at) (at + 3 + size_at s at) (wire-here s at i)) ∙
-          survey-item count long (field_there s at) (wire_list (left - 1) s (at + 3 + size_at s at)) ∙
-          ap (λ (n : ℕ). surveyed_on (count + 1) (long || ltb 64 n) (wire_list (left - 1) s (at + 3 + size_at s at))) (value-length s at i)
+      module _ (k : 3 ≤ length s - at) where
+        pub walk-value-cut : length s - at - 3 < size_at s at → walk s at count long ≡ record { count = count; long = long; whole = Err ValueCut }
+        walk-value-cut m = walk-stop ValueCut (wire-value-cut s at (omega arith) (omega arith))
 
--- the refusal of a survey is the refusal of the list
-pub survey-refusal : (l : Listing Field) → survey_refusal (surveyed l) ≡ pack_refusal l
-unfolding survey_refusal surveyed pack_refusal
-survey-refusal l = refl
+        pub walk_field : size_at s at ≤ length s - at - 3 → walk s at count long ≡ walk s (at + (3 + size_at s at)) (count + 1) (long || ltb 64 (size_at s at))
+        unfolding long_value
+        walk_field m =
+            let i : at + 3 + size_at s at ≤ length s = omega arith in
+            let next : at + 3 + size_at s at ≡ at + (3 + size_at s at) = omega arith in
+            let left : length s - count - 1 ≡ length s - (count + 1) = omega arith in
+            ap (surveyed_on count long) (wire-item s (length s - count) at (omega arith) h (field_there s at) (at + 3 + size_at s at) (wire-here s at i)) ∙
+            survey-item count long (field_there s at) (wire_list (length s - count - 1) s (at + 3 + size_at s at)) ∙
+            rw (value-length s at i, next, left)
 
--- the refusal of a survey, test by test
+-- the check of a survey is the check of the list
+pub check-survey : (l : Listing Field) → check_survey (surveyed l) ≡ check_fields l
+unfolding check_survey surveyed check_fields
+check-survey l = refl
+
+-- the check of a survey, test by test
 module _ (w : Survey) where
-  pub many-fields : 65536 < w.count → input_long ≡ survey_refusal w
-  unfolding survey_refusal
+  pub many-fields : 65536 < w.count → Err InputLong ≡ check_survey w
+  unfolding check_survey
   many-fields h = rw (lt-ltb 65536 w.count h)
 
   module _ (h : w.count ≤ 65536) where
-    pub long-value : w.long ≡ true → written_value_long ≡ survey_refusal w
-    unfolding survey_refusal
+    pub long-value : w.long ≡ true → Err WrittenValueLong ≡ check_survey w
+    unfolding check_survey
     long-value e = rw (le-ltb 65536 w.count h, e)
 
-    pub cut-only : w.long ≡ false → w.cut ≡ survey_refusal w
-    unfolding survey_refusal
-    cut-only e = rw (le-ltb 65536 w.count h, e)
+    pub whole-only : w.long ≡ false → w.whole ≡ check_survey w
+    unfolding check_survey
+    whole-only e = rw (le-ltb 65536 w.count h, e)
 
 -- a body's outcome, by the survey of its fields and the tests of the buffer's length
-module _ (id fields cells : List ℕ) {w : Survey} {e : ℕ} (is-w : w ≡ surveyed (wire_fields fields)) (is-e : e ≡ survey_refusal w) where
-  is-refusal : e ≡ pack_refusal (wire_fields fields)
-  is-refusal = is-e ∙ ap survey_refusal is-w ∙ survey-refusal (wire_fields fields)
+module _ (id fields cells : List ℕ) {w : Survey} {r : Check} (is-w : w ≡ surveyed (wire_fields fields)) (is-r : r ≡ check_survey w) where
+  is-check : r ≡ check_fields (wire_fields fields)
+  is-check = is-r ∙ ap check_survey is-w ∙ check-survey (wire_fields fields)
 
-  pub pack-refused : (e ≡ 0 → ⊥) → refused e cells ≡ pack_extension id fields cells
+  pub pack-refused : (e : Refusal) → r ≡ Err e → refused e cells ≡ pack_extension id fields cells
   unfolding pack_extension
-  pack-refused h = output.writing-stop (packed id fields) cells e h ∙ ap (λ (n : ℕ). writing n (packed id fields) cells) is-refusal
+  pack-refused e q = output.writing-stop (packed id fields) cells (check_fields (wire_fields fields)) e (sym is-check ∙ q)
 
-  module _ (l : length id ≡ 32) (z : e ≡ 0) {k : ℕ} (is-k : k ≡ length (vlq_bytes w.count)) where
+  module _ (l : length id ≡ 32) (z : r ≡ passed) {k : ℕ} (is-k : k ≡ length (vlq_bytes w.count)) where
     is-packed : packed id fields ≡ id ++ vlq_bytes w.count ++ fields
     unfolding packed surveyed
     is-packed = rw is-w
@@ -114,13 +128,13 @@ module _ (id fields cells : List ℕ) {w : Survey} {e : ℕ} (is-w : w ≡ surve
 
     goes : writes (packed id fields) cells ≡ pack_extension id fields cells
     unfolding pack_extension
-    goes = sym (output.writing-go (packed id fields) cells (pack_refusal (wire_fields fields)) (sym is-refusal ∙ z))
+    goes = sym (output.writing-go (packed id fields) cells (check_fields (wire_fields fields)) (sym is-check ∙ z))
 
-    pub pack-short : length cells < 32 + k → refused output_short cells ≡ pack_extension id fields cells
+    pub pack-short : length cells < 32 + k → refused OutputShort cells ≡ pack_extension id fields cells
     pack-short h = output.short (packed id fields) cells (32 + k + length fields) is-size (omega arith) ∙ goes
 
     module _ (h : 32 + k ≤ length cells) where
-      pub pack-short-fields : length cells - (32 + k) < length fields → refused output_short cells ≡ pack_extension id fields cells
+      pub pack-short-fields : length cells - (32 + k) < length fields → refused OutputShort cells ≡ pack_extension id fields cells
       pack-short-fields m = output.short (packed id fields) cells (32 + k + length fields) is-size (omega arith) ∙ goes
 
       pub pack-done : length fields ≤ length cells - (32 + k) → {a b d : List ℕ} → a ≡ sets cells 0 id → b ≡ sets a 32 (vlq_bytes w.count) → d ≡ sets b (32 + k) fields
@@ -168,33 +182,25 @@ entries-most m (suc n) id =
     let e = length-append (entry_bytes id (entry_of m id)) (entries_from n next m) in
     omega (arith, e, entry-most id (entry_of m id), entries-most m n next)
 
--- the parameters from one id on, n of them: none, or one and then the others
-module _ (m : ParameterMap) (n id : ℕ) where
-  pub entries_none : n ≤ 0 → entries_from n id m ≡ []
+-- the parameters that are left after k of them: none, or one and then the others
+abbrev pub left : ParameterMap → ℕ → List ℕ
+left m k = entries_from (256 - k) ((k + 128) % 256) m
+
+module _ (m : ParameterMap) (k : ℕ) where
+  pub left-none : 256 ≤ k → left m k ≡ []
   unfolding entries_from
-  entries_none h = let e : n ≡ 0 = omega arith in rw e
+  left-none h = let e : 256 - k ≡ 0 = omega arith in rw e
 
-  pub size_none : n ≤ 0 → (k : ℕ) → k + length (entries_from n id m) ≡ k
-  size_none h k = rw (entries_none h) (add-zero k)
-
-  pub put-none : n ≤ 0 → (cells : List ℕ) (at : ℕ) → sets cells at (entries_from n id m) ≡ cells
-  put-none h cells at = rw (entries_none h)
-
-  module _ (h : 0 < n) where
-    pub entries-one : entries_from n id m ≡ entry_bytes id (entry_of m id) ++ entries_from (n - 1) ((id + 1) % 256) m
+  module _ (h : k ≤ 255) {id : ℕ} {v : Value} {r : ℕ} (is-id : id ≡ (k + 128) % 256) (is-v : v ≡ entry_of m id) (is-r : r ≡ length (entry_bytes id v)) where
+    left-one : left m k ≡ entry_bytes id v ++ left m (k + 1)
     unfolding entries_from
-    entries-one = go n h
-      where
-        go : (k : ℕ) → 0 < k → entries_from k id m ≡ entry_bytes id (entry_of m id) ++ entries_from (k - 1) ((id + 1) % 256) m
-        go zero h = absurd (omega arith)
-        go (suc k) h = rw sub-one
+    left-one =
+        let n : 256 - k ≡ suc (256 - (k + 1)) = omega arith in
+        let next : (id + 1) % 256 ≡ (k + 1 + 128) % 256 = omega arith in
+        rw (n, ← is-id, ← is-v, next)
 
-    module _ {v : Value} {r next : ℕ} (is-v : v ≡ entry_of m id) (is-r : r ≡ length (entry_bytes id v)) (is-next : next ≡ (id + 1) % 256) where
-      pub size-one : (k : ℕ) → k + length (entries_from n id m) ≡ k + r + length (entries_from (n - 1) next m)
-      size-one k =
-          rw (entries-one, length-append (entry_bytes id (entry_of m id)) (entries_from (n - 1) ((id + 1) % 256) m), ← is-v, ← is-r, ← is-next) (omega arith)
+    pub size-next : (n : ℕ) → n + length (left m k) ≡ n + r + length (left m (k + 1))
+    size-next n = rw (left-one, length-append (entry_bytes id v) (left m (k + 1)), ← is-r) (omega arith)
 
-      pub put_one : (cells : List ℕ) (at : ℕ) {after : List ℕ} → after ≡ sets cells at (entry_bytes id v)
-          → sets cells at (entries_from n id m) ≡ sets after (at + r) (entries_from (n - 1) next m)
-      put_one cells at q =
-          rw (entries-one, output.sets-append (entry_bytes id (entry_of m id)) (entries_from (n - 1) ((id + 1) % 256) m) cells at, ← is-v, ← is-r, ← is-next, ← q)
+    pub put-next : (cells : List ℕ) (at : ℕ) {after : List ℕ} → after ≡ sets cells at (entry_bytes id v) → sets cells at (left m k) ≡ sets after (at + r) (left m (k + 1))
+    put-next cells at q = rw (left-one, output.sets-append (entry_bytes id v) (left m (k + 1)) cells at, ← is-r, ← q)

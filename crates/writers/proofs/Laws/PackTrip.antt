@@ -1,27 +1,30 @@
 -- Bodies and parameters there and back: a packed body is read as the fields that were handed over, and parameters that were written are
 -- read back.
 -- Assumes nothing.
-use Rattle.std.proofs.Common.{◌≡◌, ℕ, zero, suc, ◌+◌, ◌-◌, ◌%◌, ◌<◌, ◌≤◌, Bool, true, false, cond, not, ◌&&◌, ◌||◌, eqb, ltb, leb, List, [], ◌∷◌, ◌++◌, length, drop, ℤ, refl, ap, ◌∙◌, subst, add-zero, sub-one, arith, length-append, length-drop, length-set, get_or-set_other, get_or-set_same, take_at, drop_at, w32, SFits, ltb-false, ltb-true, le-ltb, eqb-true, leb-false, leb-true}
+use Rattle.std.proofs.Common.{◌≡◌, ℕ, zero, suc, ◌+◌, ◌-◌, ◌%◌, ◌<◌, ◌≤◌, Bool, true, false, cond, not, ◌&&◌, ◌||◌, eqb, ltb, leb, List, [], ◌∷◌, ◌++◌, length, drop, ℤ, refl, ap, ◌∙◌, subst, add-zero, sub-one, arith, length-append, length-drop, length-set, take_at, drop_at, w32, SFits, ltb-false, ltb-true, le-ltb, eqb-true, leb-false, leb-true}
 use mathlib.Core.Path.{subst⁻¹}
 use borrow.Author.Tests.{eqb-false}
-use lib.ListN.{length-replicate, get_or-replicate}
 use lib.Seq.{take-append-le, drop-append-le}
-use Rattle.codec.specs.Refusal.{field_header_cut, value_cut, input_long, written_value_long}
+use Rattle.codec.specs.declared.refusal.Refusal.TheVariants.{FieldHeaderCut, ValueCut, InputLong, WrittenValueLong}
 use Rattle.codec.specs.Vlq.{vlq_bytes}
 use Rattle.codec.specs.Signed.{bits_of}
 use Rattle.codec.specs.BigEndian.{big_endian_bytes}
 use Rattle.codec.proofs.Laws.BigEndian.{bytes-length, number-back}
 use Rattle.codec.proofs.Laws.VlqTrip.{written-read-at, at-most-ten}
 use Rattle.voting.specs.Value.{Value}
-use Rattle.std.specs.Prelude.{None, Some}
+use Rattle.std.specs.Prelude.{None, Some, Result, Ok, Err, IsOk}
+use Rattle.codec.specs.Check.{passed, and_then}
+use Rattle.codec.specs.declared.refusal.Refusal.{Refusal}
+use Rattle.extension.specs.declared.section.Section.{Section}
 use Rattle.voting.proofs.Laws.Tests.{by-test, neither}
 use Rattle.extension.specs.declared.parameters.ParameterMap.{ParameterMap}
-use Rattle.extension.specs.Section.{bad, Listing, done, stop, item, listing, items, refusal_of, section, closed, section_items, any}
-use Rattle.extension.specs.Body.{Field, parameter_key, read_field, fields_from, extension_of, fields_of, header_id, wrong_size, wrong_parameter, check_body}
-use Rattle.extension.specs.Parameters.{no_parameters, entry_of, store, number_in, taken, parameters_in, read_parameters, parameters_of}
+use Rattle.extension.specs.Section.{bad, Listing, done, stop, item, listing, items, all_read, section, closed, section_items, any}
+use Rattle.extension.specs.Body.{Field, parameter_key, read_field, fields_from, extension_of, fields_in, fields_of, id_in, header_id, wrong_size, wrong_parameter, check_body}
+use Rattle.extension.specs.Parameters.{no_parameters, entry_of, store, number_in, taken, parameters_in, parameters_of}
 use Rattle.extension.proofs.Laws.Section.{listing-item}
+use Rattle.extension.proofs.Laws.Parameters.{store_same, store_other, no-entry, no_length}
 use Rattle.extension.proofs.Laws.Body.{check-body-by}
-use Rattle.extension.specs.Pack.{wire_at, wire_list, wire_fields, long_value, pack_refusal, packed}
+use Rattle.extension.specs.Pack.{wire_at, wire_list, wire_fields, long_value, check_fields, packed}
 use Rattle.extension.proofs.Laws.Pack.{size_at, field_there, wire-header-cut, wire-value-cut, wire-here, value-length, wire-none, wire-end, wire-stop, wire-item}
 use Rattle.extension.proofs.Laws.PackTrip.{field-here, size-there, field-there, Lists, fine, Held, Sound}
 use Rattle.writers.specs.Pack.{PackedBack, number_bytes, entry_bytes, entries_from, parameter_bytes, ParametersBack}
@@ -52,14 +55,14 @@ last_of (done at) = at
 last_of (stop e) = 0
 last_of (item f l) = last_of l
 
-closed-whole : (n b k : ℕ) (l : Listing Field) → Whole l → closed n b (moved k l) ≡ record { refusal = 0; section = section n b (k + last_of l) }
+closed-whole : (n b k : ℕ) (l : Listing Field) → Whole l → closed n b (moved k l) ≡ Ok (section n b (k + last_of l))
 unfolding closed
 closed-whole n b k (done at) w = refl
 closed-whole n b k (stop e) w = absurd w
 closed-whole n b k (item f l) w = closed-whole n b k l w
 
 -- the three things that may stand at a position of a list of fields
-by-wire : {P : Type 0} (s : List ℕ) (at : ℕ) → (wire_at s at ≡ bad field_header_cut → P) → (wire_at s at ≡ bad value_cut → P) → (at + 3 + size_at s at ≤ length s → P) → P
+by-wire : {P : Type 0} (s : List ℕ) (at : ℕ) → (wire_at s at ≡ bad FieldHeaderCut → P) → (wire_at s at ≡ bad ValueCut → P) → (at + 3 + size_at s at ≤ length s → P) → P
 by-wire s at f g h =
     by-test (ltb (length s) (at + 3)) (λ e. f (wire-header-cut s at (ltb-true (length s) (at + 3) e)))
     (λ e. by-test (ltb (length s) (at + 3 + size_at s at))
@@ -69,11 +72,11 @@ by-wire s at f g h =
 -- the fields of a list that is not cut and has no long value are what a body's reader takes from where the list begins
 module _ (body : List ℕ) (b : ℕ) where
   abbrev Reads : ℕ → Listing Field → Type 0
-  Reads at l = refusal_of l ≡ 0 → any long_value (items l) ≡ false → Whole l × (listing (read_field body) (length (items l)) (b + at) ≡ moved b l)
+  Reads at l = all_read l ≡ passed → any long_value (items l) ≡ false → Whole l × (listing (read_field body) (length (items l)) (b + at) ≡ moved b l)
 
   one_field : (at : ℕ) (l : Listing Field) → at + 3 + size_at (drop b body) at ≤ length (drop b body) → Reads (at + 3 + size_at (drop b body) at) l
       → Reads at (item (field_there (drop b body) at) l)
-  unfolding refusal_of items any long_value
+  unfolding all_read items any long_value
   one_field at l i f r a =
       let s = drop b body in
       let v = value-length s at i in
@@ -98,7 +101,7 @@ module _ (body : List ℕ) (b : ℕ) where
   no_field at r a = (tt, refl)
 
   reads-wire : (k at : ℕ) → Reads at (wire_list k (drop b body) at)
-  unfolding refusal_of
+  unfolding all_read
   reads-wire zero at = subst⁻¹ (Reads at) (wire-none (drop b body) 0 at (omega arith)) (no_field at)
   reads-wire (suc k) at =
       let s = drop b body in
@@ -106,24 +109,24 @@ module _ (body : List ℕ) (b : ℕ) where
       by-test (leb (length s) at) (λ e. subst⁻¹ (Reads at) (wire-end s (suc k) at p (leb-true (length s) at e)) (no_field at))
       (λ e. let l : at < length s = leb-false (length s) at e in
       by-wire s at
-      (λ q. subst⁻¹ (Reads at) (wire-stop s (suc k) at p l field_header_cut q) (λ r a. absurd (omega arith)))
-      (λ q. subst⁻¹ (Reads at) (wire-stop s (suc k) at p l value_cut q) (λ r a. absurd (omega arith)))
+      (λ q. subst⁻¹ (Reads at) (wire-stop s (suc k) at p l FieldHeaderCut q) (λ r a. cc))
+      (λ q. subst⁻¹ (Reads at) (wire-stop s (suc k) at p l ValueCut q) (λ r a. cc))
       (λ i. subst⁻¹ (Reads at) (wire-item s (suc k) at p l (field_there s at) (at + 3 + size_at s at) (wire-here s at i))
       (rw sub-one (one_field at (wire_list k s (at + 3 + size_at s at)) i (reads-wire k (at + 3 + size_at s at))))))
 
 -- what a list that is not refused has: at most 65,536 fields, no long value, and no cut
-accepted-fields : (l : Listing Field) → pack_refusal l ≡ 0 → (length (items l) ≤ 65536) × (any long_value (items l) ≡ false) × (refusal_of l ≡ 0)
-unfolding pack_refusal
+accepted-fields : (l : Listing Field) → check_fields l ≡ passed → (length (items l) ≤ 65536) × (any long_value (items l) ≡ false) × (all_read l ≡ passed)
+unfolding check_fields
 accepted-fields l = go (ltb 65536 (length (items l))) (any long_value (items l)) refl refl
   where
-    go : (s t : Bool) → ltb 65536 (length (items l)) ≡ s → any long_value (items l) ≡ t → cond s input_long (cond t written_value_long (refusal_of l)) ≡ 0
-        → (length (items l) ≤ 65536) × (any long_value (items l) ≡ false) × (refusal_of l ≡ 0)
-    go true t p q e = absurd (omega arith)
-    go false true p q e = absurd (omega arith)
+    go : (s t : Bool) → ltb 65536 (length (items l)) ≡ s → any long_value (items l) ≡ t → cond s (Err InputLong) (cond t (Err WrittenValueLong) (all_read l)) ≡ passed
+        → (length (items l) ≤ 65536) × (any long_value (items l) ≡ false) × (all_read l ≡ passed)
+    go true t p q e = cc
+    go false true p q e = cc
     go false false p q e = (ltb-false 65536 (length (items l)) p, q, e)
 
 -- a body that is an id, a count and a list of as many fields
-module _ (id fields : List ℕ) (l : length id ≡ 32) (ok : pack_refusal (wire_fields fields) ≡ 0) (room : length (packed id fields) ≤ 65536) where
+module _ (id fields : List ℕ) (l : length id ≡ 32) (ok : check_fields (wire_fields fields) ≡ passed) (room : length (packed id fields) ≤ 65536) where
   abbrev many : ℕ
   many = length (items (wire_fields fields))
 
@@ -154,7 +157,7 @@ module _ (id fields : List ℕ) (l : length id ≡ 32) (ok : pack_refusal (wire_
       let f = accepted-fields (wire_fields fields) ok in
       rw (after-count, add-zero) at (reads-wire full first (length fields) 0 (rw after-count f.2) (rw after-count f.1))
 
-  parsed-is : extension_of full ≡ record { refusal = 0; section = section many first (first + last_of (wire_fields fields)) }
+  parsed-is : extension_of full ≡ Ok (section many first (first + last_of (wire_fields fields)))
   unfolding extension_of fields_from
   parsed-is =
       let f = accepted-fields (wire_fields fields) ok in
@@ -162,7 +165,7 @@ module _ (id fields : List ℕ) (l : length id ≡ 32) (ok : pack_refusal (wire_
       (closed-whole many first first (wire_fields fields) reads_all.0)
 
   pub packed-back : PackedBack id fields
-  unfolding fields_of header_id section_items packed
+  unfolding fields_of fields_in header_id id_in section_items packed
   packed-back = record {
     parsed = rw parsed-is;
     same_id = rw parsed-is (take-append-le 32 (id ++ vlq_bytes many) fields (omega (arith, front)) ∙ take_at id (vlq_bytes many) 32 l);
@@ -230,15 +233,6 @@ parameters-listed : (m : ParameterMap) → Lists (fields_for 256 128 m) (wire_fi
 unfolding parameter_bytes
 parameters-listed m = rw (entries-are m 256 128) (fields-listed (fields_for 256 128 m))
 
--- an entry that was stored, and any other
-pub store_same : (m : ParameterMap) (id : ℕ) (v : Value) → id < length m.entries → entry_of (store m id v) id ≡ v
-unfolding entry_of
-store_same m id v h = get_or-set_same m.entries id v None h
-
-pub store_other : (m : ParameterMap) (id at : ℕ) (v : Value) → (at ≡ id → ⊥) → entry_of (store m id v) at ≡ entry_of m at
-unfolding entry_of
-store_other m id at v n = get_or-set_other m.entries id at v None n
-
 -- the entries after one parameter was read
 abbrev stored : ℕ → Value → ParameterMap → ParameterMap
 stored id None m = m
@@ -287,13 +281,13 @@ stored_same id (Some z) m h e = go (eqb id 124)
 
 -- an id that is not among the n ids from one on keeps its entry; one that is among them gets the entry that was written
 module _ (m : ParameterMap) (held : (id : ℕ) → Held (entry_of m id)) (id : ℕ) (small : id < 256) where
-  passed : (n from : ℕ) (a : ParameterMap) → from < 256 → n ≤ (id + 256 - from) % 256 → entry_of (parameters_in (fields_for n from m) a) id ≡ entry_of a id
+  skipped : (n from : ℕ) (a : ParameterMap) → from < 256 → n ≤ (id + 256 - from) % 256 → entry_of (parameters_in (fields_for n from m) a) id ≡ entry_of a id
   unfolding fields_for parameters_in
-  passed zero from a f h = refl
-  passed (suc n) from a f h =
+  skipped zero from a f h = refl
+  skipped (suc n) from a f h =
       let next = (from + 1) % 256 in
       ap (λ (x : ParameterMap). entry_of x id) (take-entry from (entry_of m from) (fields_for n next m) a (held from)) ∙
-      passed n next (stored from (entry_of m from) a) (omega arith) (omega arith) ∙
+      skipped n next (stored from (entry_of m from) a) (omega arith) (omega arith) ∙
       stored_other from id (entry_of m from) a (λ e. omega arith)
 
   reached : (n from : ℕ) (a : ParameterMap) → from < 256 → n ≤ 256 → (id + 256 - from) % 256 < n → length a.entries ≡ 256 → entry_of a id ≡ None
@@ -305,21 +299,13 @@ module _ (m : ParameterMap) (held : (id : ℕ) → Held (entry_of m id)) (id : �
       ap (λ (x : ParameterMap). entry_of x id) (take-entry from (entry_of m from) (fields_for n next m) a (held from)) ∙
       by-test (eqb id from)
       (λ t. let q : id ≡ from = eqb-true id from t in
-      passed n next (stored from (entry_of m from) a) (omega arith) (omega arith) ∙
+      skipped n next (stored from (entry_of m from) a) (omega arith) (omega arith) ∙
       subst (λ (k : ℕ). entry_of (stored k (entry_of m k) a) id ≡ cond (eqb id 124) None (entry_of m id)) q (stored_same id (entry_of m id) a (omega arith) e))
       (λ t. let q = eqb-false id from t in
       reached n next (stored from (entry_of m from) a) (omega arith) (omega arith) (omega arith) (stored-length from (entry_of m from) a ∙ l) (stored_other from id (entry_of m from) a q ∙ e))
 
-pub no-entry : (id : ℕ) → id < 256 → entry_of no_parameters id ≡ None
-unfolding entry_of no_parameters
-no-entry id h = rw (get_or-replicate {A = Value} 256 id None None h)
-
-pub no_length : length no_parameters.entries ≡ 256
-unfolding no_parameters
-no_length = length-replicate {A = Value} 256 None
-
 -- the parameters that were written are a list of fields, and taken into the map they are the parameters without 124
-parameters-pack : (m : ParameterMap) → pack_refusal (wire_fields (parameter_bytes m)) ≡ 0
+parameters-pack : (m : ParameterMap) → check_fields (wire_fields (parameter_bytes m)) ≡ passed
 parameters-pack m = fine (wire_fields (parameter_bytes m)) (fields_for 256 128 m) (parameters-listed m) (omega (arith, all_once m 256 128)) (all_short m 256 128)
 
 parameters-taken : (m : ParameterMap) → Sound m → (id : ℕ) → id ≤ 255 → entry_of (parameters_in (fields_for 256 128 m) no_parameters) id ≡ cond (eqb id 124) None (entry_of m id)
@@ -366,18 +352,24 @@ module _ (m : ParameterMap) (header : List ℕ) (l : length header ≡ 32) where
   body-checked : check_body body ≡ extension_of body
   body-checked = check-body-by body ∙ rw (body-fields, all_right m 256 128)
 
-  body_map : (parameters_of body).map ≡ parameters_in (fields_for 256 128 m) no_parameters
-  unfolding parameters_of read_parameters fields_of
-  body_map = rw body-checked (ap (λ (fs : List Field). parameters_in fs no_parameters) body-fields)
+  abbrev found : ParameterMap
+  found = parameters_in (fields_for 256 128 m) no_parameters
 
-  body-read : (parameters_of body).refusal ≡ 0
-  unfolding parameters_of read_parameters
-  body-read = rw body-checked body_back.parsed
+  read-of : (r : Result Section Refusal) → IsOk r → fields_in body r ≡ fields_for 256 128 m
+      → and_then r (λ x. Ok (parameters_in (section_items (read_field body) x) no_parameters)) ≡ Ok found
+  unfolding fields_in
+  read-of (Ok x) o f = ap (λ (fs : List Field). Ok (parameters_in fs no_parameters)) f
+  read-of (Err e) o f = cc
+
+  body-read : parameters_of body ≡ Ok found
+  unfolding parameters_of fields_of
+  body-read = rw body-checked (read-of (extension_of body) body_back.parsed body-fields)
 
   pub parameters-back : Sound m → ParametersBack m header
   parameters-back held = record {
     packs = parameters-pack m;
     checked = rw body-checked body_back.parsed;
+    found = found;
     read = body-read;
-    same = λ id h. rw body_map (parameters-taken m held id h);
+    same = parameters-taken m held;
   }

@@ -1,23 +1,21 @@
 -- The sizes of what is handed over in one list of bytes, from a position on.
 -- Assumes nothing.
-use Rattle.std.proofs.Common.{◌≡◌, ℕ, zero, suc, ◌+◌, ◌-◌, ◌*◌, ◌<◌, ◌≤◌, Bool, true, false, not, eqb, List, [], ◌∷◌, length, get_or, take, drop, ap, mul-suc, add-one, arith, drop_of_length-le, drop-cons, ne_eqb}
+use Rattle.std.proofs.Common.{◌≡◌, ℕ, zero, suc, ◌+◌, ◌-◌, ◌<◌, ◌≤◌, Bool, true, false, not, eqb, List, [], ◌∷◌, length, get_or, take, drop, refl, ap, add-one, arith, drop_of_length-le, drop-cons, ne_eqb}
+use Rattle.std.specs.List.{list_any, All}
 use Rattle.voting.proofs.Laws.Tests.{neither, eqb-iff, eqb_comm}
 use Rattle.extension.specs.Section.{any}
 use Rattle.extension.specs.Encode.{sum}
-use Rattle.extension.proofs.Laws.Section.{any_here, any_next}
 
--- an element that passes a test, from a position on
-module _ {A : Type 0} (p : A → Bool) (xs : List A) (i : ℕ) where
-  pub any-end : length xs ≤ i → any p (drop i xs) ≡ false
-  unfolding any
-  any-end h = rw (drop_of_length-le xs h)
+-- whether an element passes a test, in std's words
+pub any-list : {A : Type 0} (p : A → Bool) (xs : List A) → any p xs ≡ list_any p xs
+unfolding any
+any-list p [] = refl
+any-list p (x ∷ xs) = rw (any-list p xs)
 
-  module _ (d : A) (h : i < length xs) where
-    pub any_found : p (get_or xs i d) ≡ true → any p (drop i xs) ≡ true
-    any_found e = rw (drop-cons xs i d h) (any_here p (get_or xs i d) (drop (suc i) xs) e)
-
-    pub any-past : p (get_or xs i d) ≡ false → any p (drop i xs) ≡ any p (drop (i + 1) xs)
-    any-past e = rw (drop-cons xs i d h, add-one) (any_next p (get_or xs i d) (drop (suc i) xs) e)
+pub any-none : {A : Type 0} (p : A → Bool) (xs : List A) → All (λ x. p x ≡ false) xs → any p xs ≡ false
+unfolding any
+any-none p [] h = refl
+any-none p (x ∷ xs) h = rw (h 0 x (omega arith), any-none p xs (λ k d l. h (suc k) d (omega arith)))
 
 -- where none passes a test that every larger size passes, each is at most the bound
 module _ (p : ℕ → Bool) (k : ℕ) (most : (n : ℕ) → p n ≡ false → n ≤ k) where
@@ -26,15 +24,6 @@ module _ (p : ℕ → Bool) (k : ℕ) (most : (n : ℕ) → p n ≡ false → n 
   none_above [] i e = omega arith
   none_above (n ∷ ns) zero e = most n (neither (p n) (any p ns) e).0
   none_above (n ∷ ns) (suc i) e = none_above ns i (neither (p n) (any p ns) e).1
-
-  -- and the sum is at most the bound for each
-  pub sum-most : (ns : List ℕ) → any p ns ≡ false → sum ns ≤ k * length ns
-  unfolding any sum
-  sum-most [] e = omega arith
-  sum-most (n ∷ ns) e =
-      let b = neither (p n) (any p ns) e in
-      let m : k * suc (length ns) ≡ k * length ns + k = mul-suc k (length ns) in
-      omega (arith, m, most n b.0, sum-most ns b.1)
 
 -- the sum of the sizes, from a position on
 module _ (ns : List ℕ) (i : ℕ) where

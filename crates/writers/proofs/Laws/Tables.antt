@@ -1,22 +1,22 @@
 -- A computed table as parameters: the entries that were stored, and the match.
 -- Assumes nothing.
-use Rattle.std.proofs.Common.{◌≡◌, ℕ, suc, ◌+◌, ◌<◌, ◌≤◌, Bool, true, false, cond, ◌||◌, eqb, leb, List, [], ◌∷◌, length, get_or, drop, sym, refl, ◌∙◌, subst, inl, inr, add-one, arith, length-set, drop_of_length-le, drop-cons, eqb-true, leb-false, leb-true}
+use Rattle.std.proofs.Common.{◌≡◌, ℕ, suc, ◌+◌, ◌<◌, ◌≤◌, Bool, true, false, cond, ◌||◌, eqb, leb, List, [], ◌∷◌, length, get_or, drop, sym, refl, ◌∙◌, subst, add-one, arith, length-set, drop_of_length-le, drop-cons, eqb-true, leb-false, leb-true}
 use mathlib.Core.Path.{subst⁻¹}
 use borrow.Author.Tests.{eqb-false}
 use Rattle.voting.specs.Common.{Each}
 use Rattle.voting.specs.Table.{lookup}
 use Rattle.voting.specs.Value.{Value}
-use Rattle.std.specs.Prelude.{None}
+use Rattle.std.specs.Prelude.{None, Result, Ok, Err, ⊤, IsOk}
 use Rattle.voting.specs.declared.table.Table.{Table}
 use Rattle.voting.proofs.Laws.Tests.{by-test, neither}
 use Rattle.voting.proofs.Laws.Table.{absent-number, lookup-none}
 use Rattle.extension.specs.declared.parameters.ParameterMap.{ParameterMap}
-use Rattle.extension.specs.declared.parameters.Matched.{Matched}
+use Rattle.extension.specs.declared.parameters.Mismatch.{Mismatch}
 use Rattle.extension.specs.Section.{any}
 use Rattle.extension.specs.Parameters.{no_parameters, entry_of, store, table_ids, check_parameters, Stands, LeastCarried}
+use Rattle.extension.proofs.Laws.Parameters.{store_same, store_other, no-entry, no_length}
 use Rattle.extension.proofs.Laws.Matched.{least-carried}
 use Rattle.writers.specs.Tables.{entries_in, table_parameters, TableCarried}
-use Rattle.writers.proofs.Laws.PackTrip.{store_same, store_other, no-entry, no_length}
 
 -- the ids that are left, and their entries
 ids-here : (k : ℕ) → k < 12 → drop k table_ids ≡ get_or table_ids k 0 ∷ drop (k + 1) table_ids
@@ -85,12 +85,12 @@ carried-stands t id x q =
     (λ e. let l = leb-false id 255 e in
     absurd (absent-number x (sym (lookup-none t id (λ h. omega arith) (λ i. omega arith) (λ i. omega arith) (λ i. omega arith)) ∙ q)))
 
-carried-matches : (t : Table) → check_parameters t (table_parameters t) ≡ record { refusal = 0; id = 0 }
+carried-matches : (t : Table) → IsOk (check_parameters t (table_parameters t))
 carried-matches t = go (check_parameters t (table_parameters t)) (least-carried t (table_parameters t) (check_parameters t (table_parameters t)) refl).1
   where
-    go : (r : Matched) → LeastCarried t (table_parameters t) r → r ≡ record { refusal = 0; id = 0 }
-    go r (inl p) = p.1
-    go r (inr p) = absurd (p.0.0 (carried-stands t r.id))
+    go : (r : Result ⊤ Mismatch) → LeastCarried t (table_parameters t) r → IsOk r
+    go (Ok x) p = refl
+    go (Err e) p = absurd (p.0 (carried-stands t e.id))
 
 pub table-carried : (t : Table) (m : ParameterMap) → m ≡ table_parameters t → TableCarried t m
 table-carried t m e = subst⁻¹ (TableCarried t) e (record { same = carried-entry t; matches = carried-matches t })

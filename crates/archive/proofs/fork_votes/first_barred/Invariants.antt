@@ -1,12 +1,11 @@
-use Rattle.archive.specs.ForkVotes.{fork_refusals}
+use Rattle.std.proofs.Common.{◌≡◌, ◌+◌, ◌/◌, ◌≤◌, length}
 use Rattle.voting.specs.Tally.{headers}
-use lib.ListN.{drop}
-use Prim.Native.Nat.{◌+◌, ◌-◌, ◌*◌}
-use mathlib.Core.Path.{◌≡◌}
+use Rattle.archive.specs.ForkVotes.{check_each_vote}
 use Rattle.archive.proofs.fork_votes.first_barred.Given as goal
 
-abbrev pub invariant-loop-i : goal.invariant-loop-i
-invariant-loop-i l = (l.h ≡ l.height + l.i) × (fork_refusals l.config l.table l.h (headers (drop (3 * l.i) l.votes)) ≡ fork_refusals l.config l.table l.height (headers l.votes))
-
-abbrev pub decreases-loop-i : goal.decreases-loop-i
-decreases-loop-i l = l.n - l.i
+abbrev pub invariant-loop-v : goal.invariant-loop-v
+invariant-loop-v l = record {
+  size : l.v-iterator.size ≡ 3;
+  room : l.h + length l.v-iterator.rest.now / 3 ≤ 4294967295;
+  left : check_each_vote l.config l.table l.h (headers l.v-iterator.rest.now) ≡ check_each_vote l.config l.table l.height (headers l.votes);
+}

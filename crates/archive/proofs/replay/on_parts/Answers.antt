@@ -1,16 +1,21 @@
 use mathlib.Core.Path.{◌∙◌}
-use Rattle.archive.proofs.Laws.Replay.{early-low, parts-stop, parts-body, parts-pass}
+use Rattle.voting.proofs.Laws.Tests.{early}
+use Rattle.archive.proofs.Laws.Replay.{early-low, parts-early, parts-body, parts-boundary, parts-pass}
 use Rattle.archive.proofs.replay.on_parts.Goals as goal
 
-pub returns-then-e-ne0 : goal.returns-then-e-ne0
-returns-then-e-ne0 c = c.refused.ensures ∙ parts-stop _ _ _ _ _ c.early_refusal-e.ensures c.if-e-ne0.true
+pub returns-in_err-check_early : goal.returns-in_err-check_early
+returns-in_err-check_early c = early _ c.from_residual.ensures.1 ∙ parts-early _ _ _ _ c.in_err-check_early.ensures
 
-pub returns-then-n-ne0 : goal.returns-then-n-ne0
-returns-then-n-ne0 c = c.refused-then-n-ne0.ensures ∙ parts-body _ _ _ _ _ c.early_refusal-e.ensures c.if-e-ne0.false _ c.walk_body-w.ensures c.if-n-ne0.true
+pub returns-in_err-w : goal.returns-in_err-w
+returns-in_err-w c = early _ c.from_residual-in_err-w.ensures.1 ∙ parts-body _ _ _ _ c.in_ok-check_early.ensures c.in_err-w.ensures
 
-pub after_boundary-requires : goal.after_boundary-requires
-after_boundary-requires c = (early-low _ _ _ _ c.early_refusal-e.ensures c.if-e-ne0.false, c.requires)
+pub returns-in_err-b : goal.returns-in_err-b
+returns-in_err-b c = early _ c.from_residual-in_err-b.ensures.1
+    ∙ parts-boundary _ _ _ _ c.in_ok-check_early.ensures _ c.in_ok-w.ensures _ c.boundary_votes.ensures c.in_err-b.ensures.value
+
+pub after_match-requires : goal.after_match-requires
+after_match-requires c = (early-low _ _ _ c.in_ok-check_early.ensures, c.requires)
 
 pub returns : goal.returns
-returns c = c.after_boundary.ensures
-    ∙ parts-pass _ _ _ _ _ c.early_refusal-e.ensures c.if-e-ne0.false _ c.walk_body-w.ensures c.if-n-ne0.false _ c.boundary_votes-vote.ensures _ c.boundary_with_update-b.ensures.value
+returns c = c.after_match.ensures
+    ∙ parts-pass _ _ _ _ c.in_ok-check_early.ensures _ c.in_ok-w.ensures _ c.boundary_votes.ensures c.in_ok-b.ensures.value c.match_found.ensures

@@ -1,5 +1,4 @@
-use Rattle.archive.proofs.Laws.Replay.{onward-is}
 use Rattle.archive.proofs.replay.onward.Goals as goal
 
 pub returns : goal.returns
-returns c = onward-is c.args.s _ _ _ _ c.tally_votes_seeded-y.ensures
+returns c = rw (c.unwrap_or.ensures, c.tally_votes_seeded.ensures, c.no_tally.ensures)

@@ -1,13 +1,9 @@
-use Rattle.std.proofs.Common.{drop, sym, ◌∙◌, rules}
-use Rattle.codec.proofs.Laws.Output.{sets-out, sets-none, sets-one}
+use Rattle.std.proofs.Common.{sym}
+use Rattle.codec.proofs.Laws.Output.{sets-out, sets-room}
 use Rattle.codec.proofs.output.put_bytes.Goals as goal
 
-pub returns-then-out-k : goal.returns-then-out-k
-returns-then-out-k c = let l = c.loop-i in
-    sym (sets-out (drop l.i c.args.bytes.now) l.out l.k c.if-out-k.true) ∙ l.invariant.1
-
-pub loop-i-preserved : goal.loop-i-preserved
-loop-i-preserved c = (search rules, sym (sets-one _ _ c.loop-i-test.true _ _) ∙ c.loop-i.invariant.1)
+pub returns-then-out-at : goal.returns-then-out-at
+returns-then-out-at c = sym (sets-out c.args.bytes.now c.args.out.now c.args.at c.if-out-at.true)
 
 pub returns : goal.returns
-returns c = sym (sets-none _ _ c.loop-i-test.false _ _) ∙ c.loop-i.invariant.1
+returns c = sets-room c.args.bytes.now _ _ c.args.at c.min-n.result c.if-out-at.false c.min-n.ensures c.copy_from_slice.ensures.after

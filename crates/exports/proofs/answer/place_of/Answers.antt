@@ -1,11 +1,11 @@
-use Rattle.exports.specs.Reply.{answer_of}
-use mathlib.Core.Path.{sym, ◌∙◌}
+use Rattle.exports.specs.Reply.{answer_of, minus}
+use mathlib.Core.Path.{sym, ap, ◌∙◌}
 use Rattle.exports.proofs.answer.place_of.Goals as goal
 
-pub returns-in-Bytes : goal.returns-in-Bytes
+pub returns-in-Ok : goal.returns-in-Ok
 unfolding answer_of
-returns-in-Bytes c = sym (rw c.in-Bytes.is)
+returns-in-Ok c = sym (rw c.in-Ok.is)
 
-pub returns-in-Refused : goal.returns-in-Refused
+pub returns-in-Err : goal.returns-in-Err
 unfolding answer_of
-returns-in-Refused c = c.minus.ensures ∙ sym (rw c.in-Refused.is)
+returns-in-Err c = c.minus.ensures ∙ ap minus c.number.ensures ∙ sym (rw c.in-Err.is)

@@ -1,18 +1,22 @@
+use Rattle.std.specs.Prelude.{Err}
+use Rattle.archive.specs.declared.record.Unread.TheVariants.{Short, Malformed}
 use Prim.Native.Nat.{ℕ}
-use Rattle.exports.specs.Reply.{reply}
+use Rattle.exports.specs.Reply.{reply, minus}
 use Rattle.exports.specs.Calls.{record_reply}
 use mathlib.Core.Path.{refl, sym, ap, ◌∙◌}
 use Rattle.exports.proofs.Laws.{through-reply, placed-is}
 use Rattle.exports.proofs.records.ergo_read_record.Goals as goal
 
-pub returns-in-Whole : goal.returns-in-Whole
+pub returns-in-Ok : goal.returns-in-Ok
 unfolding record_reply
-returns-in-Whole c = through-reply record_reply _ (placed-is c.write_record.result c.place_of.ensures c.write_record.ensures.out_after) (sym c.in-Whole.is ∙ c.read_record.ensures.value)
+returns-in-Ok c = through-reply record_reply _ (placed-is c.write_record.result c.place_of.ensures c.write_record.ensures.out_after) (sym c.in-Ok.is ∙ c.read_record.ensures.value)
 
-pub returns-in-Short : goal.returns-in-Short
+pub returns-in-Err-Short : goal.returns-in-Err-Short
 unfolding record_reply
-returns-in-Short c = through-reply record_reply _ refl (sym c.in-Short.is ∙ c.read_record.ensures.value)
+returns-in-Err-Short c = through-reply record_reply {x = Err (Short c.in-Err-Short.n)} _ refl
+    (ap Err (sym c.in-Err-Short.field-0-is) ∙ sym c.in-Err-Short.is ∙ c.read_record.ensures.value)
 
-pub returns-in-Malformed : goal.returns-in-Malformed
+pub returns-in-Err-Malformed : goal.returns-in-Err-Malformed
 unfolding record_reply
-returns-in-Malformed c = through-reply record_reply _ (ap (λ (r : ℕ). reply r c.args.out.now) c.minus.ensures) (sym c.in-Malformed.is ∙ c.read_record.ensures.value)
+returns-in-Err-Malformed c = through-reply record_reply {x = Err Malformed} _ (ap (λ (r : ℕ). reply r c.args.out.now) (c.minus.ensures ∙ ap minus c.number.ensures))
+    (ap Err (sym c.in-Err-Malformed.field-0-is) ∙ sym c.in-Err-Malformed.is ∙ c.read_record.ensures.value)

@@ -1,8 +1,9 @@
+use mathlib.Core.Path.{sym}
 use Rattle.exports.proofs.WindowLaws.{answer-refused, answer-window}
 use Rattle.exports.proofs.windows.answer_of.Goals as goal
 
-pub returns-then-x-ne0 : goal.returns-then-x-ne0
-returns-then-x-ne0 c = answer-refused _ _ _ c.if-x-ne0.true c.minus.ensures
+pub returns-in-Ok : goal.returns-in-Ok
+returns-in-Ok c = answer-window (sym c.in-Ok.is) c.window_number.ensures
 
-pub returns : goal.returns
-returns c = answer-window _ _ _ c.if-x-ne0.false c.window_number.ensures
+pub returns-in-Err : goal.returns-in-Err
+returns-in-Err c = answer-refused (sym c.in-Err.is) c.number.ensures c.minus.ensures

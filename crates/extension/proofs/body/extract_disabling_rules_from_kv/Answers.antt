@@ -1,6 +1,9 @@
-use mathlib.Core.Path.{◌∙◌}
-use Rattle.extension.proofs.Laws.Body.{proposed-is}
+use mathlib.Core.Path.{sym, ◌∙◌}
+use Rattle.extension.proofs.Laws.Body.{proposed-is, proposed-none}
 use Rattle.extension.proofs.body.extract_disabling_rules_from_kv.Goals as goal
 
-pub returns : goal.returns
-returns c = c.find_update-found.ensures.is ∙ proposed-is _ _ c.parse_extension_bytes-x.ensures.value
+pub returns-in-Ok : goal.returns-in-Ok
+returns-in-Ok c = c.find_update-found.ensures.is ∙ proposed-is _ _ (sym c.in-Ok.is ∙ c.parse_extension_bytes.ensures.value)
+
+pub returns-in-Err : goal.returns-in-Err
+returns-in-Err c = proposed-none _ _ (sym c.in-Err.is ∙ c.parse_extension_bytes.ensures.value)

@@ -1,16 +1,17 @@
-use Rattle.extension.proofs.Laws.Section.{listing_none, listing-stop, listing-item, closed-done, closed-stop, closed-item}
+use Rattle.voting.proofs.Laws.Tests.{early}
+use Rattle.extension.proofs.Laws.Section.{left_none, left-stop, left-item, closed-done, closed-stop, closed-item}
 use Rattle.extension.proofs.Laws.Body.{field-read, field-unread}
 use mathlib.Core.Path.{sym, ◌∙◌}
 use Rattle.extension.proofs.body.fields_section.Goals as goal
 
-pub returns-in-NoField : goal.returns-in-NoField
-returns-in-NoField c = c.refused.ensures
-    ∙ closed-stop _ _ _ _ (listing-stop _ _ _ c.loop-left-test.true _ (field-unread _ _ _ (sym c.in-NoField.is ∙ c.read_field.ensures)))
-    ∙ c.loop-left.invariant
+pub returns-in_err-end : goal.returns-in_err-end
+returns-in_err-end c = early _ c.from_residual.ensures.1
+    ∙ closed-stop _ _ _ _ (left-stop _ _ _ _ c.loop-test.true _ (field-unread _ _ _ (sym c.in_err-end.was ∙ c.read_field.ensures)))
+    ∙ c.loop.invariant
 
-pub loop-left-preserved : goal.loop-left-preserved
-loop-left-preserved c = closed-item _ _ _ _ _ (listing-item _ _ _ c.loop-left-test.true _ _ (field-read _ _ _ (sym c.in-HasField.is ∙ c.read_field.ensures)))
-    ∙ c.loop-left.invariant
+pub loop-preserved : goal.loop-preserved
+loop-preserved c = closed-item _ _ _ _ _ (left-item _ _ _ _ c.loop-test.true _ _ (field-read _ _ _ (sym c.in_ok-end.was ∙ c.read_field.ensures)))
+    ∙ c.loop.invariant
 
 pub returns : goal.returns
-returns c = c.read.ensures ∙ closed-done _ _ _ _ (listing_none _ _ _ c.loop-left-test.false) ∙ c.loop-left.invariant
+returns c = closed-done _ _ _ _ (left_none _ _ _ _ c.loop-test.false) ∙ c.loop.invariant

@@ -1,10 +1,8 @@
 use Rattle.extension.specs.Body.{read_field, update_in}
-use Rattle.extension.specs.Section.{listing, items}
+use Rattle.extension.specs.Section.{section_items, listing, items}
 use mathlib.Core.Path.{◌≡◌}
+use Prim.Native.Nat.{◌-◌}
 use Rattle.extension.proofs.body.find_update.Given as goal
 
-abbrev pub invariant-loop-left : goal.invariant-loop-left
-invariant-loop-left l = update_in (items (listing (read_field l.body) l.left l.at)) ≡ update_in (items (listing (read_field l.body) l.initial.left l.initial.at))
-
-abbrev pub decreases-loop-left : goal.decreases-loop-left
-decreases-loop-left l = l.left
+abbrev pub invariant-loop : goal.invariant-loop
+invariant-loop l = update_in (items (listing (read_field l.body) (l.end - l.counter) l.at)) ≡ update_in (section_items (read_field l.body) l.fn.fields)

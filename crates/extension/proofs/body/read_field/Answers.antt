@@ -1,5 +1,4 @@
 use native.Mathlib.Omega.{arith}
-use Prim.Native.Nat.{◌+◌}
 use Rattle.extension.proofs.Laws.Body.{field_cut, field-long, field-over, field-here}
 use Rattle.extension.proofs.body.read_field.Goals as goal
 
@@ -8,9 +7,6 @@ returns-then-body-at c = field_cut _ _ (omega (arith, c.if-body-at.true))
 
 pub returns-then-room-lt3 : goal.returns-then-room-lt3
 returns-then-room-lt3 c = field_cut _ _ (omega (arith, c.if-room-lt3.true, c.if-body-at.false))
-
-pub overflow_cast-n : goal.overflow_cast-n
-overflow_cast-n c = omega (arith, c.shared_slice_known-1.given (c.args.at + 2))
 
 pub returns-then-n-gt-VALUE_MOST : goal.returns-then-n-gt-VALUE_MOST
 returns-then-n-gt-VALUE_MOST c = field-long _ _ (omega (arith, c.if-room-lt3.false, c.if-body-at.false)) c.if-n-gt-VALUE_MOST.true

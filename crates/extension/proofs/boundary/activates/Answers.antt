@@ -1,8 +1,8 @@
 use Rattle.extension.proofs.Laws.Boundary.{activates-it, activates-none}
 use Rattle.extension.proofs.boundary.activates.Goals as goal
 
-pub returns-then-round : goal.returns-then-round
-returns-then-round c = activates-it _ _ c.if-round.true
+pub returns-then-b : goal.returns-then-b
+returns-then-b c = activates-it _ _ c.if-b.true
 
-pub returns : goal.returns
-returns c = activates-none _ _ c.if-round.false _ c.no_update.ensures
+pub returns-else-b : goal.returns-else-b
+returns-else-b c = activates-none _ _ c.if-b.false _ c.no_update.ensures

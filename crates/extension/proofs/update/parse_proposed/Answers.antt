@@ -1,15 +1,22 @@
-use Rattle.extension.proofs.Laws.Update.{update-long, update-empty, update-read, proposed-refused, proposed-empty, proposed-read, rules-moved}
-use mathlib.Core.Path.{sym}
+use mathlib.Core.Path.{sym, ◌∙◌}
+use borrow.Author.Tests.{eqb-true, eqb-false}
+use Rattle.voting.proofs.Laws.Tests.{early}
+use Rattle.extension.proofs.Laws.Update.{proposed-long, proposed-empty, proposed-unread, proposed-read, rules-surveyed}
 use Rattle.extension.proofs.update.parse_proposed.Goals as goal
 
 pub returns-then-bytes-gt-INPUT_MOST : goal.returns-then-bytes-gt-INPUT_MOST
-returns-then-bytes-gt-INPUT_MOST c = proposed-refused _ _ _ _ c.refused.ensures (update-long _ c.if-bytes-gt-INPUT_MOST.true)
+returns-then-bytes-gt-INPUT_MOST c = proposed-long _ _ c.if-bytes-gt-INPUT_MOST.true
 
-pub returns-then-bytes-eq0 : goal.returns-then-bytes-eq0
-returns-then-bytes-eq0 c = proposed-empty _ _ _ c.no_update.ensures (update-empty _ c.if-bytes-gt-INPUT_MOST.false c.if-bytes-eq0.true)
+pub returns-then-is_empty : goal.returns-then-is_empty
+returns-then-is_empty c = proposed-empty _ _ c.if-bytes-gt-INPUT_MOST.false (eqb-true _ _ (sym c.if-is_empty.ensures)) _ c.no_update.ensures
+
+pub returns-in_err-rules_from : goal.returns-in_err-rules_from
+returns-in_err-rules_from c = early _ c.from_residual.ensures.1
+    ∙ proposed-unread _ _ c.if-bytes-gt-INPUT_MOST.false (eqb-false _ _ (sym c.if-is_empty.ensures)) _ (sym c.in_err-rules_from.was ∙ c.rules_from.ensures)
 
 pub with_rules-requires : goal.with_rules-requires
-with_rules-requires c = let rules = c.rules_from.ensures in rules-moved _ _ _ _ (sym rules.parsed) _ rules
+with_rules-requires c = rules-surveyed _ _ _ _ (sym c.in_ok-rules_from.was ∙ c.rules_from.ensures)
 
 pub returns : goal.returns
-returns c = proposed-read _ _ _ _ c.with_rules.ensures.0 c.with_rules.ensures.1 (update-read _ c.if-bytes-gt-INPUT_MOST.false c.if-bytes-eq0.false _ c.rules_from.ensures.parsed)
+returns c = c.with_rules.ensures
+    ∙ proposed-read _ _ c.if-bytes-gt-INPUT_MOST.false (eqb-false _ _ (sym c.if-is_empty.ensures)) _ (sym c.in_ok-rules_from.was ∙ c.rules_from.ensures)

@@ -1,10 +1,14 @@
-use mathlib.Core.Path.{sym, ◌∙◌}
+use mathlib.Core.Path.{sym, ap, ◌∙◌}
+use Rattle.std.specs.Prelude.{Err}
+use Rattle.voting.proofs.Laws.Tests.{early}
+use Rattle.extension.proofs.Laws.Section.{unread}
 use Rattle.extension.proofs.Laws.Update.{from-count, from-unreadable}
 use Rattle.extension.proofs.update.statuses_from.Goals as goal
 
-pub returns-in-Some : goal.returns-in-Some
-returns-in-Some c = c.statuses_section.ensures
-    ∙ from-count _ _ _ (sym c.in-Some.is ∙ c.read_u32.ensures) _ c.count_in.ensures
+pub returns-in_err-m : goal.returns-in_err-m
+returns-in_err-m c = let u = unread _ _ _ (sym c.ok_or.ensures.value ∙ c.in_err-m.was) in
+    early _ c.from_residual.ensures.1 ∙ ap Err u.1 ∙ from-unreadable _ _ (u.0 ∙ c.read_u32.ensures)
 
-pub returns-in-None : goal.returns-in-None
-returns-in-None c = c.refused.ensures ∙ from-unreadable _ _ (sym c.in-None.is ∙ c.read_u32.ensures)
+pub returns : goal.returns
+returns c = c.statuses_section.ensures
+    ∙ from-count _ _ _ (sym c.in_ok-m.ensures.ok_part ∙ c.read_u32.ensures) _ c.count_in.ensures

@@ -1,11 +1,9 @@
-use Rattle.headers.proofs.Laws.Lanes.{lane-on}
-use native.Mathlib.Omega.{arith}
+use Rattle.std.proofs.Common.{ℕ, ◌+◌, ◌<◌, rules}
+use Rattle.headers.specs.Lanes.{Legal, place}
+use Rattle.headers.proofs.Laws.Lanes.{none-from_fold, lane-legal}
 use Rattle.headers.proofs.lanes.block_illegal.Goals as goal
 
-pub loop-l-preserved : goal.loop-l-preserved
-loop-l-preserved c = let a = c.args in
-    let l = c.loop-l in
-    lane-on a.votes.now a.at l.l c.loop-l-test.true _ _ l.invariant c.lane_illegal-found.ensures
-
 pub returns : goal.returns
-returns c = λ e l h. c.loop-l.invariant e l (omega (arith, h))
+returns c = λ e l below. let s = c.args.votes.now in
+    let at = c.args.at in
+    none-from_fold (λ (l : ℕ). l < 16 → Legal s (at + place l)) _ _ 16 (λ a l b h k. (λ e. (search rules, λ below. lane-legal s at l below (search rules)), search rules)) _ c.fold.ensures.ran e l below below

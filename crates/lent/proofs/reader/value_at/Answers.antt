@@ -1,11 +1,15 @@
+use mathlib.Core.Path.{◌∙◌}
+use native.Mathlib.Omega.{arith}
 use Rattle.lent.proofs.Laws.Reader.{value-told, value-done, value-more}
+use Rattle.lent.proofs.reader.value_at.Goals.{in_default-via-in-Ok+else-c-gt0, in_default-via-in_default}
 use Rattle.lent.proofs.reader.value_at.Goals as goal
 
-pub returns-then-cursor-ne0 : goal.returns-then-cursor-ne0
-returns-then-cursor-ne0 c = value-told _ _ c.if-cursor-ne0.true
+pub returns-in-Ok : goal.returns-in-Ok
+returns-in-Ok c = c.field_value.ensures ∙ value-more _ _ _ c.in-Ok.is c.if-c-gt0.true
 
-pub returns-then-cursor-eq0 : goal.returns-then-cursor-eq0
-returns-then-cursor-eq0 c = value-done _ _ c.if-cursor-ne0.false c.if-cursor-eq0.true
-
-pub returns : goal.returns
-returns c = value-more _ _ c.if-cursor-ne0.false c.if-cursor-eq0.false _ c.field_value.ensures
+pub returns-in_default : goal.returns-in_default
+returns-in_default c =
+    elim c.in_default.branch [
+      | in_default-via-in-Ok+else-c-gt0 w ↦ value-done _ _ _ w.in-Ok.is (omega arith)
+      | in_default-via-in_default w ↦ value-told _ _ _ w.in_default.is
+    ]

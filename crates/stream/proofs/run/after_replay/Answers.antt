@@ -1,15 +1,10 @@
-use Rattle.stream.specs.Run.{after_replay}
-use Rattle.archive.specs.declared.replay.Verdict.{Verdict}
-use Rattle.std.proofs.Common.{sym, ap, ◌∙◌}
+use Rattle.stream.specs.Run.{ends_by, after_replay}
+use Rattle.std.proofs.Common.{ap, sym, ◌∙◌}
 use Rattle.stream.proofs.run.after_replay.Goals as goal
 
-pub returns-in-Accepted : goal.returns-in-Accepted
-returns-in-Accepted c = c.goes_on.ensures ∙ ap (λ (v : Verdict). after_replay c.args.run c.args.height c.args.used v c.args.x.state) (sym c.in-Accepted.is)
+pub returns-in-Ok : goal.returns-in-Ok
+returns-in-Ok c = let a = c.args in c.goes_on.ensures ∙ ap (after_replay a.run a.height a.used) (sym c.in-Ok.is)
 
-pub returns-in-Refused : goal.returns-in-Refused
+pub returns-in-Err : goal.returns-in-Err
 unfolding after_replay
-returns-in-Refused c = c.ends_by.ensures ∙ ap (λ (v : Verdict). after_replay c.args.run c.args.height c.args.used v c.args.x.state) (sym c.in-Refused.is)
-
-pub returns-in-Mismatch : goal.returns-in-Mismatch
-unfolding after_replay
-returns-in-Mismatch c = c.ends_by-in-Mismatch.ensures ∙ ap (λ (v : Verdict). after_replay c.args.run c.args.height c.args.used v c.args.x.state) (sym c.in-Mismatch.is)
+returns-in-Err c = let a = c.args in c.ends_by.ensures ∙ ap (ends_by a.run a.used) c.number.ensures ∙ ap (after_replay a.run a.height a.used) (sym c.in-Err.is)

@@ -10,7 +10,7 @@ returns-then-run-eq0 c = let a = c.args in record {
 
 pub returns : goal.returns
 returns c = let a = c.args in record {
-  value = (finished a.run a.cells.now a.out.now _ (filled-some _ c.if-run-eq0.false) _ _ (c.last-2.ensures.value, c.last-2.ensures.lines)).0;
-  lines = (finished a.run a.cells.now a.out.now _ (filled-some _ c.if-run-eq0.false) _ _ (c.last-2.ensures.value, c.last-2.ensures.lines)).1.0;
-  ends = (finished a.run a.cells.now a.out.now _ (filled-some _ c.if-run-eq0.false) _ _ (c.last-2.ensures.value, c.last-2.ensures.lines)).1.1;
+  value = (finished a.run a.cells.now a.out.now _ (filled-some _ c.if-run-eq0.false _ c.number.ensures) _ _ (c.last-2.ensures.value, c.last-2.ensures.lines)).0;
+  lines = (finished a.run a.cells.now a.out.now _ (filled-some _ c.if-run-eq0.false _ c.number.ensures) _ _ (c.last-2.ensures.value, c.last-2.ensures.lines)).1.0;
+  ends = (finished a.run a.cells.now a.out.now _ (filled-some _ c.if-run-eq0.false _ c.number.ensures) _ _ (c.last-2.ensures.value, c.last-2.ensures.lines)).1.1;
 }

@@ -3,14 +3,14 @@ use Rattle.stream.proofs.run.last.Goals as goal
 
 pub returns-then-too_short : goal.returns-then-too_short
 returns-then-too_short c = let a = c.args in record {
-  value = (last-short a.run a.cells.now a.n a.out.now _ c.too_short.ensures c.if-too_short.true _ c.stopped.ensures).0;
-  lines = (last-short a.run a.cells.now a.n a.out.now _ c.too_short.ensures c.if-too_short.true _ c.stopped.ensures).1;
+  value = (last-short a.run a.cells.now a.n a.out.now _ c.too_short.ensures c.if-too_short.true).0;
+  lines = (last-short a.run a.cells.now a.n a.out.now _ c.too_short.ensures c.if-too_short.true).1;
 }
 
 pub returns-then-run : goal.returns-then-run
 returns-then-run c = let a = c.args in record {
-  value = (last-over a.run a.cells.now a.n a.out.now _ c.too_short.ensures c.if-too_short.false c.if-run.true _ c.stopped-then-run.ensures).0;
-  lines = (last-over a.run a.cells.now a.n a.out.now _ c.too_short.ensures c.if-too_short.false c.if-run.true _ c.stopped-then-run.ensures).1;
+  value = (last-over a.run a.cells.now a.n a.out.now _ c.too_short.ensures c.if-too_short.false c.if-run.true _ c.stopped.ensures).0;
+  lines = (last-over a.run a.cells.now a.n a.out.now _ c.too_short.ensures c.if-too_short.false c.if-run.true _ c.stopped.ensures).1;
 }
 
 pub add-wrote-requires : goal.add-wrote-requires

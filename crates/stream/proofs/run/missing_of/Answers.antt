@@ -1,11 +1,12 @@
 use Rattle.stream.proofs.Laws.Run.{missing-whole, missing-short, missing-none}
+use Rattle.std.proofs.Common.{Err, ap, ◌∙◌, rules}
 use Rattle.stream.proofs.run.missing_of.Goals as goal
 
-pub returns-in-Whole : goal.returns-in-Whole
-returns-in-Whole c = missing-whole _ _ _ c.record_of.ensures _ c.in-Whole.is
+pub returns-in-Err-Short : goal.returns-in-Err-Short
+returns-in-Err-Short c = missing-short _ _ _ c.record_of.ensures _ (c.in-Err-Short.is ∙ ap Err c.in-Err-Short.field-0-is)
 
-pub returns-in-Short : goal.returns-in-Short
-returns-in-Short c = missing-short _ _ _ c.record_of.ensures _ c.in-Short.is
+pub returns-in_default : goal.returns-in_default
+returns-in_default c = missing-none _ _ _ c.record_of.ensures (search rules)
 
-pub returns-in-Malformed : goal.returns-in-Malformed
-returns-in-Malformed c = missing-none _ _ _ c.record_of.ensures c.in-Malformed.is
+pub returns-in_default-2 : goal.returns-in_default-2
+returns-in_default-2 c = missing-whole _ _ _ c.record_of.ensures _ c.in_default.is

@@ -1,12 +1,16 @@
-use Rattle.voting.proofs.Laws.Sweep.{part-stop, votes-stop, votes-pass}
-use Rattle.std.proofs.Common.{◌∙◌}
+use Rattle.std.proofs.Common.{sym, ◌∙◌}
+use Rattle.voting.specs.Sweep.{finish_sweep}
+use Rattle.voting.proofs.Laws.Tests.{early}
 use Rattle.voting.proofs.boundary.finish.Goals as goal
 
-pub returns-then-part-ne0 : goal.returns-then-part-ne0
-returns-then-part-ne0 c = c.refused.ensures ∙ part-stop _ _ _ _ _ _ _ c.fork_part-part.ensures c.if-part-ne0.true
+pub returns-in_err-part : goal.returns-in_err-part
+unfolding finish_sweep
+returns-in_err-part c = early _ c.from_residual.ensures.1 ∙ rw (sym c.fork_part.ensures ∙ c.in_err-part.was)
 
-pub returns-then-voted-ne0 : goal.returns-then-voted-ne0
-returns-then-voted-ne0 c = c.refused-then-voted-ne0.ensures ∙ votes-stop _ _ _ _ _ _ _ c.fork_part-part.ensures c.if-part-ne0.false c.if-voted-ne0.true
+pub returns-in_err-voted : goal.returns-in_err-voted
+unfolding finish_sweep
+returns-in_err-voted c = early _ c.from_residual-in_err-voted.ensures.1 ∙ rw (sym c.fork_part.ensures ∙ c.in_ok-part.was, c.in_err-voted.was)
 
 pub returns : goal.returns
-returns c = votes-pass _ _ _ _ _ _ _ c.fork_part-part.ensures c.if-part-ne0.false c.if-voted-ne0.false _ c.with_subblocks-last.ensures
+unfolding finish_sweep
+returns c = rw (sym c.fork_part.ensures ∙ c.in_ok-part.was, c.in_ok-voted.was, c.with_subblocks.ensures)

@@ -1,14 +1,12 @@
-use Rattle.std.proofs.Common.{pos, ap, ◌∙◌}
-use Rattle.voting.specs.Boundary.{is_number, is_absent}
-use Rattle.voting.specs.Value.{Value}
-use Rattle.voting.proofs.Laws.Boundary.{subblocks-new, subblocks-same}
+use Rattle.std.proofs.Common.{arith}
+use Rattle.voting.specs.Common.{eq_z}
+use Rattle.voting.specs.Boundary.{is_number, is_absent, with_subblocks}
 use Rattle.voting.proofs.boundary.with_subblocks.Goals as goal
 
-pub returns-then-is_number-is_absent : goal.returns-then-is_number-is_absent
-returns-then-is_number-is_absent c = c.with.ensures
-    ∙ subblocks-new _ _ _ _ (c.is_number.ensures ∙ ap (λ (v : Value). is_number v (pos 4)) c.get-version.ensures)
-    (c.is_absent.ensures ∙ ap is_absent c.get-subblocks.ensures) c.if-is_number-is_absent.true
+pub returns-then-eq-is_none : goal.returns-then-eq-is_none
+unfolding with_subblocks is_number is_absent eq_z
+returns-then-eq-is_none c = grind arith
 
 pub returns : goal.returns
-returns c = subblocks-same _ _ _ _ (c.is_number.ensures ∙ ap (λ (v : Value). is_number v (pos 4)) c.get-version.ensures)
-    (c.is_absent.ensures ∙ ap is_absent c.get-subblocks.ensures) c.if-is_number-is_absent.false
+unfolding with_subblocks is_number is_absent eq_z
+returns c = grind arith

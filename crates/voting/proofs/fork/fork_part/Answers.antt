@@ -5,10 +5,10 @@ use mir.ValLaws.{to_z-of_z}
 use Rattle.voting.proofs.fork.fork_part.Goals as goal
 
 pub returns-then-config-eq0 : goal.returns-then-config-eq0
-returns-then-config-eq0 c = c.fork_refused.ensures ∙ part-zero _ _ _ _ _ c.if-config-eq0.true
+returns-then-config-eq0 c = part-zero _ _ _ _ _ c.if-config-eq0.true
 
 pub returns-then-settings_large : goal.returns-then-settings_large
-returns-then-settings_large c = c.fork_refused-then-settings_large.ensures ∙ part-large _ _ _ _ _ c.if-config-eq0.false _ c.settings_large.ensures c.if-settings_large.true
+returns-then-settings_large c = part-large _ _ _ _ _ c.if-config-eq0.false _ c.settings_large.ensures c.if-settings_large.true
 
 pub phase_at-requires : goal.phase_at-requires
 phase_at-requires c = sym c.settings_large.ensures ∙ c.if-settings_large.false

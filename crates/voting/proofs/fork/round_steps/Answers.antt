@@ -5,4 +5,4 @@ use Rattle.voting.proofs.fork.round_steps.Goals as goal
 
 pub returns : goal.returns
 unfolding round_steps
-returns c = rw (c.stored-t.ensures, to_z-of_z w32 c.args.total c.ranges.total, c.restarts-opened.ensures, c.closes_late.ensures, c.closes_early.ensures, c.rises.ensures)
+returns c = rw (c.stored.ensures, to_z-of_z w32 c.args.total c.ranges.total, c.restarts-opened.ensures, c.closes_late.ensures, c.closes_early.ensures, c.rises.ensures)

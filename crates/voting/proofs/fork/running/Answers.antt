@@ -4,7 +4,7 @@ use Rattle.std.proofs.Common.{sym, ◌∙◌, w32, SFits, rules}
 use Rattle.voting.proofs.fork.running.Goals as goal
 
 pub returns-then-reads_total : goal.returns-then-reads_total
-returns-then-reads_total c = c.fork_refused.ensures ∙ running-orphan _ _ _ _ _ _ _ c.in-None.is (sym c.reads_total.ensures ∙ c.if-reads_total.true)
+returns-then-reads_total c = running-orphan _ _ _ _ _ _ _ c.in-None.is (sym c.reads_total.ensures ∙ c.if-reads_total.true)
 
 pub returns-else-reads_total : goal.returns-else-reads_total
 returns-else-reads_total c = c.finished.ensures ∙ rw c.no_round.ensures (running-unread _ _ _ _ _ _ _ c.in-None.is (sym c.reads_total.ensures ∙ c.if-reads_total.false))

@@ -1,6 +1,6 @@
-use Rattle.std.proofs.Common.{[], ◌∷◌, ◌∙◌}
-use Rattle.voting.specs.Header.{votes_in}
-use Rattle.voting.proofs.Laws.Header.{many-votes, few-votes, three-faults}
+use Rattle.std.proofs.Common.{[], ◌∷◌, sym, ◌∙◌}
+use Rattle.voting.proofs.Laws.Tests.{early, and-stop, and-pass}
+use Rattle.voting.proofs.Laws.Header.{many-votes, three-checks}
 use Rattle.voting.proofs.header.check_votes.Goals as goal
 
 pub returns-then-ordinary-gt-PARAM_VOTES_COUNT : goal.returns-then-ordinary-gt-PARAM_VOTES_COUNT
@@ -8,8 +8,18 @@ returns-then-ordinary-gt-PARAM_VOTES_COUNT c = let a = c.args in
     many-votes (a.a ∷ a.b ∷ a.c ∷ []) c.ordinary.ensures c.if-ordinary-gt-PARAM_VOTES_COUNT.true
 
 pub returns : goal.returns
-returns c = let o = c.ordinary in
-    let a = c.args in
-    let bs = a.a ∷ a.b ∷ a.c ∷ [] in
-    three-faults (votes_in bs) a.a a.b a.c c.vote_fault.ensures c.vote_fault-2.ensures c.vote_fault-3.ensures c.first_of.ensures c.first_of-2.ensures ∙
-    few-votes bs o.ensures c.if-ordinary-gt-PARAM_VOTES_COUNT.false
+returns c = c.check_vote-3.ensures
+    ∙ sym (and-pass _ _ (sym c.check_vote-2.ensures ∙ c.in_ok-check_vote-2.was))
+    ∙ sym (and-pass _ _ (sym c.check_vote.ensures ∙ c.in_ok-check_vote.was))
+    ∙ three-checks c.args.a c.args.b c.args.c c.ordinary.ensures c.if-ordinary-gt-PARAM_VOTES_COUNT.false
+
+pub returns-in_err-check_vote : goal.returns-in_err-check_vote
+returns-in_err-check_vote c = early _ c.from_residual.ensures.1
+    ∙ sym (and-stop _ _ (sym c.check_vote.ensures ∙ c.in_err-check_vote.was))
+    ∙ three-checks c.args.a c.args.b c.args.c c.ordinary.ensures c.if-ordinary-gt-PARAM_VOTES_COUNT.false
+
+pub returns-in_err-check_vote-2 : goal.returns-in_err-check_vote-2
+returns-in_err-check_vote-2 c = early _ c.from_residual-in_err-check_vote-2.ensures.1
+    ∙ sym (and-stop _ _ (sym c.check_vote-2.ensures ∙ c.in_err-check_vote-2.was))
+    ∙ sym (and-pass _ _ (sym c.check_vote.ensures ∙ c.in_ok-check_vote.was))
+    ∙ three-checks c.args.a c.args.b c.args.c c.ordinary.ensures c.if-ordinary-gt-PARAM_VOTES_COUNT.false

@@ -3,16 +3,16 @@ use Rattle.voting.proofs.Laws.Tally.{whole_length, window-long, window-elsewhere
 use Rattle.voting.proofs.tally.tally_votes_seeded.Goals as goal
 
 pub returns-then-n-gt65536 : goal.returns-then-n-gt65536
-returns-then-n-gt65536 c = window-long _ _ _ _ c.if-n-gt65536.true c.no_tally-t.ensures
+returns-then-n-gt65536 c = window-long _ _ _ _ c.if-n-gt65536.true
 
 pub returns-then-first_height-voting_length : goal.returns-then-first_height-voting_length
-returns-then-first_height-voting_length c = window-elsewhere _ _ _ _ c.if-n-gt65536.false c.if-first_height-voting_length.true c.no_tally-t-then-first_height-voting_length.ensures
+returns-then-first_height-voting_length c = window-elsewhere _ _ _ _ c.if-n-gt65536.false c.if-first_height-voting_length.true c.no_tally.ensures
 
 pub slice_bounds-epoch_tally-end : goal.slice_bounds-epoch_tally-end
 slice_bounds-epoch_tally-end c = sym (whole_length c.args.votes.now)
 
-pub epoch_tally-t-requires : goal.epoch_tally-t-requires
-epoch_tally-t-requires c = rw (whole_length c.args.votes.now) (omega (arith, c.if-n-gt65536.false))
+pub epoch_tally-requires : goal.epoch_tally-requires
+epoch_tally-requires c = rw (whole_length c.args.votes.now) (omega (arith, c.if-n-gt65536.false))
 
 pub returns : goal.returns
-returns c = window-here _ _ _ _ c.if-n-gt65536.false c.if-first_height-voting_length.false c.epoch_tally-t.ensures
+returns c = window-here _ _ _ _ c.if-n-gt65536.false c.if-first_height-voting_length.false c.epoch_tally.ensures

@@ -1,3 +1,4 @@
+use Prim.Native.Nat.{◌+◌}
 use mathlib.Core.Path.{sym, ◌∙◌}
 use native.Mathlib.Nat.{zero-add}
 use native.Mathlib.Omega.{arith}
@@ -19,8 +20,9 @@ pub loop-id-preserved : goal.loop-id-preserved
 loop-id-preserved c = let l = c.loop-id in
     let r = present-most l.id c.get-v.result in (
       omega (arith, l.invariant.0, c.present_size-n.ensures, r),
-      size-one _ _ c.loop-id-test.true c.get-v.ensures c.present_size-n.ensures _ ∙ l.invariant.1,
+      size-one _ _ (omega arith) c.get-v.ensures c.present_size-n.ensures _ ∙ l.invariant.1,
     )
 
-pub returns : goal.returns
-returns c = sym (size_none _ _ c.loop-id-test.false _) ∙ c.loop-id.invariant.1
+pub returns-2 : goal.returns-2
+returns-2 c = let l = c.loop-id in
+    sym (size_none c.args.m (l.id + 1) (omega arith) _) ∙ size-one _ _ (omega arith) c.get-v.ensures c.present_size-n.ensures _ ∙ l.invariant.1

@@ -1,11 +1,6 @@
-use Prim.Native.Nat.{◌+◌, ◌-◌, ◌*◌, ◌≤◌}
-use mathlib.Core.Path.{◌≡◌}
-use lib.ListN.{length}
+use Rattle.std.proofs.Common.{◌≡◌, ◌+◌, ◌-◌, ◌*◌, ◌≤◌, length}
 use Rattle.wire.specs.Map.{present_from, map_bytes}
 use Rattle.wire.proofs.map.map_size.Given as goal
 
 abbrev pub invariant-loop-id : goal.invariant-loop-id
 invariant-loop-id l = (l.n ≤ 5 * l.id) × (l.n + length (present_from (256 - l.id) l.id l.m) ≡ length (map_bytes l.m))
-
-abbrev pub decreases-loop-id : goal.decreases-loop-id
-decreases-loop-id l = 256 - l.id

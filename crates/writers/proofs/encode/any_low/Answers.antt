@@ -1,29 +1,20 @@
-use Rattle.std.proofs.Common.{true, false, get_or, pos, sym, ◌∙◌, true≢false, arith, w16, SFits}
+use Rattle.std.proofs.Common.{◌≡◌, false, pos, sym, ◌∙◌, rules, w16, SFits}
 use lib.Signed.{lt_z}
+use Rattle.std.proofs.lemmas.Iterator.{YieldsList-from_slice, cases_from_any}
+use Rattle.std.proofs.lemmas.Iterator.Search.{any_from_yields_List}
+use Rattle.std.proofs.lemmas.List.Elements.{All-from_all_within}
 use Rattle.extension.specs.Encode.{low_rule}
-use Rattle.writers.proofs.Laws.Sizes.{any-end, any_found, any-past}
-use Rattle.writers.proofs.Laws.Encode.{low-test, not-high}
+use Rattle.writers.proofs.Laws.Sizes.{any-list, any-none}
+use Rattle.writers.proofs.Laws.Encode.{not-high}
 use Rattle.writers.proofs.encode.any_low.Goals as goal
 
-pub returns-then-ids-i-lt-FIRST_RULE_ID : goal.returns-then-ids-i-lt-FIRST_RULE_ID
-returns-then-ids-i-lt-FIRST_RULE_ID c = record {
-  value = sym (any_found low_rule _ _ (pos 0) c.loop-i-test.true (low-test _ true (record { sfits = c.t6-1.given }) c.if-ids-i-lt-FIRST_RULE_ID.true)) ∙ c.loop-i.invariant.1;
-  fit = λ e. absurd (true≢false e);
-}
+pub returns-clause-value : goal.returns-clause-value
+unfolding low_rule
+returns-clause-value c = let s = c.args.ids.now in
+    any_from_yields_List low_rule _ _ _ c.any.ensures.ran (YieldsList-from_slice s c.iter.ensures.rest) (λ x b q k. search rules) ∙ sym (any-list low_rule s)
 
-pub loop-i-preserved : goal.loop-i-preserved
-loop-i-preserved c = let l = c.loop-i in
-    let ids = c.args.ids.now in
-    let x = get_or ids l.i (pos 0) in
-    let f : SFits w16 x = record { sfits = c.t6-1.given } in (
-      omega arith,
-      sym (any-past low_rule ids l.i (pos 0) c.loop-i-test.true (low-test x false f c.if-ids-i-lt-FIRST_RULE_ID.false)) ∙ l.invariant.1,
-      λ e. l.invariant.2 (any-past (lt_z (pos 32767)) ids l.i (pos 0) c.loop-i-test.true (not-high x f) ∙ e),
-    )
-
-pub returns : goal.returns
-returns c = let l = c.loop-i in
-    record {
-      value = sym (any-end low_rule _ _ c.loop-i-test.false) ∙ l.invariant.1;
-      fit = λ e. l.invariant.2 (any-end (lt_z (pos 32767)) _ _ c.loop-i-test.false);
-    }
+pub returns-clause-fit : goal.returns-clause-fit
+returns-clause-fit c = λ e. let s = c.args.ids.now in
+    let k = cases_from_any _ _ c.any.result (λ z. Unit {0}) (λ z. lt_z (pos 32767) z ≡ false) c.any.ensures.ran (YieldsList-from_slice s c.iter.ensures.rest)
+    (λ x q k. tt) (λ x q k. (search rules, let f : SFits w16 x.now = search rules in not-high x.now f)) in
+    any-none (lt_z (pos 32767)) s (All-from_all_within (λ z. lt_z (pos 32767) z ≡ false) s (rw e at k))

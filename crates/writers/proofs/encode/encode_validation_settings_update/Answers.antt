@@ -1,4 +1,5 @@
-use Rattle.std.proofs.Common.{length, ◌∙◌, arith}
+use Rattle.std.proofs.Common.{length, sym, ◌∙◌, arith}
+use Rattle.voting.proofs.Laws.Tests.{early}
 use Rattle.codec.proofs.Laws.VlqTrip.{at-most-ten}
 use Rattle.codec.proofs.Laws.Output.{short, done}
 use Rattle.extension.specs.Encode.{encoded, status_list}
@@ -6,15 +7,12 @@ use Rattle.writers.proofs.Laws.EncodeTrip.{update-back}
 use Rattle.writers.proofs.Laws.Encode.{accepted, update-refused, update-written, update-size, update-put}
 use Rattle.writers.proofs.encode.encode_validation_settings_update.Goals as goal
 
-pub returns-then-e-ne0 : goal.returns-then-e-ne0
-returns-then-e-ne0 c = let r = c.encode_refusal-e.ensures in
-    record {
-      out_after = update-refused _ _ _ _ _ r.value c.if-e-ne0.true _;
-      back = update-back _ _ _ _ _ (λ i. (c.shared_slice_known-1.given i).fits) r.value r.fit;
-    }
+pub returns-in_err-check_update-clause-out_after : goal.returns-in_err-check_update-clause-out_after
+returns-in_err-check_update-clause-out_after c =
+    rw (early _ c.from_residual.ensures.1) (update-refused _ _ _ _ _ _ (sym c.check_update.ensures.value ∙ c.in_err-check_update.was) _)
 
 pub rules_size-requires : goal.rules_size-requires
-rules_size-requires c = (accepted c.args.rules.now c.args.ids.now c.args.codes.now c.args.sizes.now c.args.raw.now c.encode_refusal-e.ensures.value c.if-e-ne0.false).few-rules
+rules_size-requires c = (accepted c.args.rules.now c.args.ids.now c.args.codes.now c.args.sizes.now c.args.raw.now (sym c.check_update.ensures.value ∙ c.in_ok-check_update.was)).few-rules
 
 pub overflow_add-second : goal.overflow_add-second
 overflow_add-second c = omega (arith, c.rules_size.ensures, c.size-first.ensures, at-most-ten (length c.args.rules.now))
@@ -23,7 +21,7 @@ pub overflow_add-third : goal.overflow_add-third
 overflow_add-third c = omega (arith, c.rules_size.ensures, c.size-first.ensures, c.size.ensures, at-most-ten (length c.args.rules.now), at-most-ten (length c.args.ids.now))
 
 pub statuses_size-requires : goal.statuses_size-requires
-statuses_size-requires c = (accepted c.args.rules.now c.args.ids.now c.args.codes.now c.args.sizes.now c.args.raw.now c.encode_refusal-e.ensures.value c.if-e-ne0.false).few-ids
+statuses_size-requires c = (accepted c.args.rules.now c.args.ids.now c.args.codes.now c.args.sizes.now c.args.raw.now (sym c.check_update.ensures.value ∙ c.in_ok-check_update.was)).few-ids
 
 pub overflow_add-need : goal.overflow_add-need
 overflow_add-need c = let a = c.args in
@@ -36,18 +34,17 @@ returns-then-out-need c = let a = c.args in
     let codes = a.codes.now in
     let sizes = a.sizes.now in
     let raw = a.raw.now in
-    let r = c.encode_refusal-e.ensures in
-    let q = r.value in
-    let e = c.if-e-ne0.false in record {
+    let r = c.check_update.ensures in
+    let q = sym r.value ∙ c.in_ok-check_update.was in record {
       out_after = short (encoded rules (status_list ids codes sizes raw)) a.out.now _
-          (update-size rules ids codes sizes raw (accepted rules ids codes sizes raw q e).agrees c.size-first.ensures c.rules_size.ensures.0 c.size.ensures c.statuses_size.ensures.0)
+          (update-size rules ids codes sizes raw (accepted rules ids codes sizes raw q).agrees c.size-first.ensures c.rules_size.ensures.0 c.size.ensures c.statuses_size.ensures.0)
           c.if-out-need.true ∙
-          update-written rules ids codes sizes raw q e a.out.now;
-      back = update-back rules ids codes sizes raw (λ i. (c.shared_slice_known-1.given i).fits) q r.fit;
+          update-written rules ids codes sizes raw q a.out.now;
+      back = update-back rules ids codes sizes raw (λ i. (c.shared_slice_known-1.given i).fits) r.value r.fit;
     }
 
 pub put_statuses-requires : goal.put_statuses-requires
-put_statuses-requires c = (accepted c.args.rules.now c.args.ids.now c.args.codes.now c.args.sizes.now c.args.raw.now c.encode_refusal-e.ensures.value c.if-e-ne0.false).agrees
+put_statuses-requires c = (accepted c.args.rules.now c.args.ids.now c.args.codes.now c.args.sizes.now c.args.raw.now (sym c.check_update.ensures.value ∙ c.in_ok-check_update.was)).agrees
 
 pub returns : goal.returns
 returns c = let a = c.args in
@@ -56,10 +53,9 @@ returns c = let a = c.args in
     let codes = a.codes.now in
     let sizes = a.sizes.now in
     let raw = a.raw.now in
-    let r = c.encode_refusal-e.ensures in
-    let q = r.value in
-    let e = c.if-e-ne0.false in
-    let g = (accepted rules ids codes sizes raw q e).agrees in
+    let r = c.check_update.ensures in
+    let q = sym r.value ∙ c.in_ok-check_update.was in
+    let g = (accepted rules ids codes sizes raw q).agrees in
     let pf = c.size-first.ensures in
     let pr = c.rules_size.ensures.0 in
     let pk = c.size.ensures in
@@ -68,6 +64,6 @@ returns c = let a = c.args in
     let p₃ = c.put-2.ensures in record {
       out_after = done (encoded rules (status_list ids codes sizes raw)) a.out.now _ (update-size rules ids codes sizes raw g pf pr pk c.statuses_size.ensures.0) c.if-out-need.false _
           (update-put rules ids codes sizes raw g pf pr pk a.out.now p₁ p₂ p₃ c.put_statuses.ensures) ∙
-          update-written rules ids codes sizes raw q e a.out.now;
-      back = update-back rules ids codes sizes raw (λ i. (c.shared_slice_known-1.given i).fits) q r.fit;
+          update-written rules ids codes sizes raw q a.out.now;
+      back = update-back rules ids codes sizes raw (λ i. (c.shared_slice_known-1.given i).fits) r.value r.fit;
     }

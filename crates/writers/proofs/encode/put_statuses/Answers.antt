@@ -1,60 +1,47 @@
-use Rattle.std.proofs.Common.{get_or, drop, pos, sym, refl, ◌∙◌, arith, w16, rules}
+use Rattle.std.proofs.Common.{◌≡◌, inl, inr, length, drop, sym, refl, ap, ◌∙◌, arith, w16}
 use mir.ValLaws.{to_z-of_z}
 use Rattle.codec.proofs.Laws.Output.{sets-out}
-use Rattle.extension.specs.Encode.{status_list, statuses_bytes}
-use Rattle.writers.proofs.Laws.Encode.{agreed, statuses-end, codes-too, sizes-too, raw-too, raw-left, statuses-put}
+use Rattle.extension.specs.Encode.{sum, status_list, statuses_bytes}
+use Rattle.writers.proofs.Laws.Encode.{agreed, statuses-end, statuses-put}
 use Rattle.writers.proofs.encode.put_statuses.Goals as goal
 
-pub loop-i-init : goal.loop-i-init
-loop-i-init c = let a = c.args in
-    (omega arith, refl, omega (arith, agreed a.ids.now a.codes.now a.sizes.now a.raw.now c.requires), refl)
+pub loop-id-init : goal.loop-id-init
+loop-id-init c = let r = c.into_iter-id-iterator.result in
+    let a = c.args in
+    let ids : r.a.a.rest.now ≡ a.ids.now = cc in
+    let codes : r.a.b.rest.now ≡ a.codes.now = cc (c.zip.ensures.second.0) in
+    let sizes : r.b.rest.now ≡ a.sizes.now = cc (c.zip-id-items.ensures.second.0) in
+    let g = agreed a.ids.now a.codes.now a.sizes.now a.raw.now c.requires in
+    rw (ids, codes, sizes) (g.0, g.1, omega (arith, g), refl)
 
 pub returns-then-out-k : goal.returns-then-out-k
-returns-then-out-k c = let l = c.loop-i in
-    let a = c.args in
-    sym (sets-out (statuses_bytes (status_list (drop l.i a.ids.now) (drop l.i a.codes.now) (drop l.i a.sizes.now) (drop l.p a.raw.now))) l.out l.k c.if-out-k.true) ∙ l.invariant.3
-
-pub bounds-sizes-i : goal.bounds-sizes-i
-bounds-sizes-i c = let l = c.loop-i in
-    let a = c.args in
-    let t = c.loop-i-test.true in
-    sizes-too a.ids.now a.codes.now a.sizes.now a.raw.now l.i l.p c.requires t l.invariant.2
-
-pub overflow_cast-next : goal.overflow_cast-next
-overflow_cast-next c = omega (arith, c.shared_slice_known-in-loop-i-1.given c.loop-i.i)
-
-pub overflow_add-next : goal.overflow_add-next
-overflow_add-next c = let l = c.loop-i in
-    let a = c.args in
-    let t = c.loop-i-test.true in
-    let z = raw-too a.ids.now a.codes.now a.sizes.now a.raw.now l.i l.p c.requires t l.invariant.2 in
-    search rules
-
-pub bounds-codes-i : goal.bounds-codes-i
-bounds-codes-i c = let l = c.loop-i in
-    let a = c.args in
-    let t = c.loop-i-test.true in
-    codes-too a.ids.now a.codes.now a.sizes.now a.raw.now l.i l.p c.requires t l.invariant.2
+returns-then-out-k c = let l = c.loop-id in
+    let r = l.id-iterator in
+    sym (sets-out (statuses_bytes (status_list r.a.a.rest.now r.a.b.rest.now r.b.rest.now (drop l.p c.args.raw.now))) l.out l.k c.if-out-k.true) ∙ l.invariant.3
 
 pub slice_bounds-put_status-end : goal.slice_bounds-put_status-end
-slice_bounds-put_status-end c = let l = c.loop-i in
-    let a = c.args in
-    let t = c.loop-i-test.true in
-    raw-too a.ids.now a.codes.now a.sizes.now a.raw.now l.i l.p c.requires t l.invariant.2
+unfolding sum
+slice_bounds-put_status-end c = let l = c.loop-id in
+    let bytes = rw c.in-Some.ensures.steps.1 at l.invariant.2 in
+    omega (arith, bytes)
 
-pub loop-i-preserved : goal.loop-i-preserved
-loop-i-preserved c = let l = c.loop-i in
-    let a = c.args in
-    let t = c.loop-i-test.true in
-    let e = to_z-of_z w16 (get_or a.ids.now l.i (pos 0)) (record { sfits = c.rule-1.given }) in
-    let put = c.put_status in (
-      omega arith,
-      omega (arith, put.auto.out),
-      raw-left a.ids.now a.codes.now a.sizes.now a.raw.now l.i l.p c.requires t l.invariant.2,
-      rw put.ensures (sym (statuses-put a.ids.now a.codes.now a.sizes.now a.raw.now l.i l.p c.requires t l.invariant.2 e c.status_size-k.ensures.0 l.out l.k) ∙ l.invariant.3),
-    )
+pub loop-id-preserved : goal.loop-id-preserved
+unfolding sum
+loop-id-preserved c = let l = c.loop-id in
+    let x = c.in-Some in
+    let st = x.ensures.steps in
+    let rest = c.next.new.self in
+    let bytes = rw st.1 at l.invariant.2 in
+    let stored = rw (st.0.0, st.0.1, st.1) at l.invariant.3 in
+    let e = to_z-of_z w16 x.id.now (record { sfits = c.rule-1.given }) in
+    let one = statuses-put x.id.now x.code.now x.size.now rest.a.a.rest.now rest.a.b.rest.now rest.b.rest.now c.args.raw.now l.p (omega (arith, bytes)) e c.status_size-k.ensures.0 l.out l.k in
+    (omega (arith, l.invariant.0, ap length st.0.0, ap length st.0.1), omega (arith, l.invariant.1, ap length st.0.0, ap length st.1), omega (arith, bytes), rw c.put_status.ensures (sym one ∙ stored))
 
 pub returns : goal.returns
-returns c = let l = c.loop-i in
-    let a = c.args in
-    rw (statuses-end a.ids.now a.codes.now a.sizes.now a.raw.now l.i l.p c.loop-i-test.false) at l.invariant.3
+returns c = let l = c.loop-id in
+    let r = l.id-iterator in
+    let none : length r.a.a.rest.now ≡ 0 = elim c.in-None.ensures.steps [
+      | inl x ↦ elim x.1 [ inl y ↦ y.1.0 | inr y ↦ omega (arith, y.1.0, l.invariant.0) ]
+      | inr x ↦ omega (arith, x.1.0, l.invariant.1)
+    ] in
+    rw (statuses-end r.a.a.rest.now r.a.b.rest.now r.b.rest.now (drop l.p c.args.raw.now) none) at l.invariant.3

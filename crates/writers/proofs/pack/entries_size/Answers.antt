@@ -1,21 +1,22 @@
-use Rattle.std.proofs.Common.{sym, ◌∙◌, zero-add, arith, rules}
+use Rattle.std.proofs.Common.{◌+◌, length, sym, ap, ◌∙◌, zero-add, arith, rules}
 use Rattle.writers.specs.Pack.{parameter_bytes}
-use Rattle.writers.proofs.Laws.Pack.{entry-most, size_none, size-one}
+use Rattle.writers.proofs.Laws.Pack.{entry-most, left-none, size-next}
 use Rattle.writers.proofs.pack.entries_size.Goals as goal
 
-pub loop-left-init : goal.loop-left-init
+pub loop-k-init : goal.loop-k-init
 unfolding parameter_bytes
-loop-left-init c = (search rules, zero-add _)
+loop-k-init c = (search rules, zero-add _)
 
 pub overflow_add-n : goal.overflow_add-n
-overflow_add-n c = let r = entry-most c.loop-left.id c.get-v.result in
-    omega (arith, c.loop-left.invariant.0, c.entry_size-n.ensures, r, c.loop-left-test.true)
+overflow_add-n c = omega (arith, c.loop-k.invariant.0, c.entry_size-n.ensures, entry-most c.wrapping_add_u8-id.result c.get.result)
 
-pub loop-left-preserved : goal.loop-left-preserved
-loop-left-preserved c = let r = entry-most c.loop-left.id c.get-v.result in (
-  omega (arith, c.loop-left.invariant.0, c.entry_size-n.ensures, r, c.loop-left-test.true),
-  sym (size-one _ _ _ c.loop-left-test.true c.get-v.ensures c.entry_size-n.ensures c.wrapping_add_u8-id.ensures.value _) ∙ c.loop-left.invariant.1,
+pub loop-k-preserved : goal.loop-k-preserved
+loop-k-preserved c = let l = c.loop-k in (
+  omega (arith, l.invariant.0, c.entry_size-n.ensures, entry-most c.wrapping_add_u8-id.result c.get.result),
+  sym (size-next _ l.k (omega arith) c.wrapping_add_u8-id.ensures.value c.get.ensures c.entry_size-n.ensures l.n) ∙ l.invariant.1,
 )
 
-pub returns : goal.returns
-returns c = let l = c.loop-left in sym (size_none _ _ _ c.loop-left-test.false _) ∙ l.invariant.1
+pub returns-2 : goal.returns-2
+returns-2 c = let l = c.loop-k in
+    let last = size-next c.args.params l.k (omega arith) c.wrapping_add_u8-id.ensures.value c.get.ensures c.entry_size-n.ensures l.n in
+    omega (arith, last, l.invariant.1, ap length (left-none c.args.params (l.k + 1) (omega arith)))

@@ -1,23 +1,22 @@
-use Rattle.std.proofs.Common.{sym, refl, ◌∙◌, arith, rules}
+use Rattle.std.proofs.Common.{◌+◌, sym, refl, ◌∙◌, arith, rules}
 use Rattle.writers.specs.Pack.{parameter_bytes}
-use Rattle.writers.proofs.Laws.Pack.{entry-most, put-none, put_one}
+use Rattle.writers.proofs.Laws.Pack.{entry-most, left-none, put-next}
 use Rattle.writers.proofs.pack.put_entries.Goals as goal
 
-pub loop-left-init : goal.loop-left-init
+pub loop-k-init : goal.loop-k-init
 unfolding parameter_bytes
-loop-left-init c = (search rules, search rules, refl)
+loop-k-init c = (search rules, refl)
 
 pub overflow_add-at : goal.overflow_add-at
-overflow_add-at c = let r = entry-most c.loop-left.id c.get-v.result in
-    omega (arith, c.loop-left.invariant.1, c.entry_size-at.ensures, r, c.loop-left-test.true)
+overflow_add-at c = omega (arith, c.loop-k.invariant.0, c.entry_size-at.ensures, entry-most c.wrapping_add_u8-id.result c.get-v.result)
 
-pub loop-left-preserved : goal.loop-left-preserved
-loop-left-preserved c = let l = c.loop-left in
-    let r = entry-most l.id c.get-v.result in (
-      search rules,
-      omega (arith, l.invariant.1, c.entry_size-at.ensures, r, c.loop-left-test.true),
-      sym (put_one _ _ _ c.loop-left-test.true c.get-v.ensures c.entry_size-at.ensures c.wrapping_add_u8-id.ensures.value _ _ c.put_entry.ensures) ∙ l.invariant.2,
-    )
+pub loop-k-preserved : goal.loop-k-preserved
+loop-k-preserved c = let l = c.loop-k in (
+  omega (arith, l.invariant.0, c.entry_size-at.ensures, entry-most c.wrapping_add_u8-id.result c.get-v.result),
+  sym (put-next _ l.k (omega arith) c.wrapping_add_u8-id.ensures.value c.get-v.ensures c.entry_size-at.ensures l.out l.at c.put_entry.ensures) ∙ l.invariant.1,
+)
 
-pub returns : goal.returns
-returns c = let l = c.loop-left in sym (put-none _ _ _ c.loop-left-test.false _ _) ∙ l.invariant.2
+pub returns-2 : goal.returns-2
+returns-2 c = let l = c.loop-k in
+    let last = put-next c.args.params l.k (omega arith) c.wrapping_add_u8-id.ensures.value c.get-v.ensures c.entry_size-at.ensures l.out l.at c.put_entry.ensures in
+    rw (left-none c.args.params (l.k + 1) (omega arith)) at (sym last ∙ l.invariant.1)

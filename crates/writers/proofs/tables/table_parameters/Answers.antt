@@ -5,16 +5,16 @@ use Rattle.writers.specs.Tables.{entries_in, table_parameters}
 use Rattle.writers.proofs.Laws.Tables.{entries-end, entries_next, table-carried}
 use Rattle.writers.proofs.tables.table_parameters.Goals as goal
 
-pub loop-k-init : goal.loop-k-init
+pub loop-id-init : goal.loop-id-init
 unfolding table_parameters
-loop-k-init c = ap (λ (m : ParameterMap). entries_in c.args.table table_ids m) c.no_parameters-m.ensures
+loop-id-init c = ap (λ (m : ParameterMap). entries_in c.args.table table_ids m) c.no_parameters-m.ensures
 
-pub loop-k-preserved : goal.loop-k-preserved
+pub loop-id-preserved : goal.loop-id-preserved
 unfolding table_ids
-loop-k-preserved c = sym (entries_next _ _ _ c.loop-k-test.true c.get-v.ensures c.with-m.ensures) ∙ c.loop-k.invariant
+loop-id-preserved c = sym (entries_next _ _ _ c.loop-id-test.true c.get.ensures c.with-m.ensures) ∙ c.loop-id.invariant
 
 pub returns : goal.returns
-returns c = let e = sym (entries-end _ _ _ c.loop-k-test.false) ∙ c.loop-k.invariant in
+returns c = let e = sym (entries-end _ _ _ c.loop-id-test.false) ∙ c.loop-id.invariant in
     record {
       value = e;
       carried = table-carried _ _ e;

@@ -1,4 +1,0 @@
-use Rattle.extension.proofs.update.refused.Goals as goal
-
-pub returns : goal.returns
-returns c = rw c.no_update.ensures
