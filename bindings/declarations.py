@@ -60,9 +60,17 @@ def c_arguments(text: str) -> list[str]:
     return listed
 
 
+def constant_name(variant: str) -> str:
+    return re.sub(r"(?<!^)([A-Z])", r"_\1", variant).upper()
+
+
+def library_refusals(text: str) -> dict[str, str]:
+    return {constant_name(name): number for name, number in re.findall(r"^    (\w+) = (\d+),", text, re.MULTILINE)}
+
+
 def rust_refusals(text: str) -> dict[str, str]:
     listed = re.findall(r"^    \(\s*(\d+),\s*(\w+)(?: \{ id: 0 \})?,\s*\"", text, re.MULTILINE)
-    return {re.sub(r"(?<!^)([A-Z])", r"_\1", name).upper(): number for number, name in listed}
+    return {constant_name(name): number for number, name in listed}
 
 
 def constants(text: str, pattern: str) -> dict[str, str]:
@@ -82,7 +90,7 @@ def main() -> int:
     header = text_of("bindings/c/ergo_voting.h")
     module = text_of("bindings/python/ergo_voting.py")
     exported = functions(text_of("crates/exports_c/src/*.rt"), 'pub extern "C" fn')
-    refusals = dict(re.findall(r"pub const (\w+): u8 = (\d+);", text_of("crates/codec/src/refusal.rt")))
+    refusals = library_refusals(text_of("crates/codec/src/refusal.rt"))
     promised = re.findall(r"ensures size \{ length \((\w+)_bytes \w+\) ≡ (\d+) \}", text_of("crates/wire/src/*.rt"))
     sizes = {f"{name.upper()}_SIZE": size for name, size in promised}
     in_source = constants(text_of("crates/support/src/window.rt"), r"^pub const (\w+): \w+ = (\d+);")
