@@ -1,8 +1,8 @@
 // Soft-fork rounds: the fork check of a header, and the fork part of a boundary. docs/RULES.md, "Fork check" and "Boundary".
-ghost use Rattle.std.specs.Prelude.{◌≡◌, ◌*◌, ◌<◌, false, pos, ◌+ℤ◌, if◌then◌else◌};
+ghost use Rattle.std.specs.Prelude.{◌≡◌, ◌*◌, ◌<◌, false, pos, ℤ, ◌+ℤ◌, if◌then◌else◌};
 ghost use Rattle.voting.specs.Settings.{voting_length, settings_large};
 ghost use Rattle.voting.specs.ForkCheck.{barred, check_round, check_fork_vote, round_open, votes_open};
-ghost use Rattle.voting.specs.ForkPart.{no_round, phase_at, fork_total, reads_total, closes_late, closes_early, restarts, rises, without, begun, collected, one_more, risen, five_steps, round_steps, two_for_one, forced, finished, running, opening, fork_part};
+ghost use Rattle.voting.specs.ForkPart.{no_round, phase_at, fork_total, reads_total, closes_late, closes_early, restarts, rises, version_by, without, begun, collected, one_more, risen, five_steps, round_steps, two_for_one, forced, finished, running, opening, fork_part};
 
 use crate::header;
 use crate::settings::VotingConfig;
@@ -185,7 +185,7 @@ fn without(closes: bool, f: Fork) -> Fork
         return Fork {
             votes: None,
             start: None,
-            version: f.version,
+            ..f
         };
     }
     f
@@ -199,7 +199,7 @@ fn begun(opens: bool, height: u32, f: Fork) -> Fork
         return Fork {
             votes: Some(0),
             start: Some(signed::i32_of(height)),
-            version: f.version,
+            ..f
         };
     }
     f
@@ -212,21 +212,10 @@ fn collected(voting: bool, total: i32, f: Fork) -> Fork
     if voting {
         return Fork {
             votes: Some(total),
-            start: f.start,
-            version: f.version,
+            ..f
         };
     }
     f
-}
-
-fn with_version(f: Fork, z: i32) -> Fork
-    ensures { result ≡ record { votes = f.votes; start = f.start; version = Some z } }
-{
-    Fork {
-        votes: f.votes,
-        start: f.start,
-        version: Some(z),
-    }
 }
 
 fn one_more(z: i32) -> i32
@@ -235,15 +224,26 @@ fn one_more(z: i32) -> i32
     signed::wrapping_add_i32(z, 1)
 }
 
+// Entry 123 changed where it has to be, by `next`, which is `n` in the contract.
+fn version_by<F: FnOnce(i32) -> i32>(changes: bool, next: F, f: Fork) -> Result<Fork, Refusal>
+    requires { F.IsAlwaysCallable next }
+    ensures { (n : ℤ → ℤ) → ((z y : ℤ) → F.post next z y → y ≡ n z) → result ≡ version_by changes n f f.version }
+{
+    if !changes {
+        return Ok(f);
+    }
+    let z = f.version.ok_or(Refusal::BlockVersionAbsent)?;
+    Ok(Fork {
+        version: Some(next(z)),
+        ..f
+    })
+}
+
 // Step 5: entry 123 rises.
 fn risen(rise: bool, f: Fork) -> Result<Fork, Refusal>
     ensures { result ≡ risen rise f }
 {
-    if !rise {
-        return Ok(f);
-    }
-    let z = f.version.ok_or(Refusal::BlockVersionAbsent)?;
-    Ok(with_version(f, one_more(z)))
+    version_by(rise, one_more, f)
 }
 
 // The five steps in order.
@@ -299,11 +299,7 @@ fn two_for_one(z: i32) -> i32
 fn forced(at: bool, f: Fork) -> Result<Fork, Refusal>
     ensures { result ≡ forced at f }
 {
-    if !at {
-        return Ok(f);
-    }
-    let z = f.version.ok_or(Refusal::BlockVersionAbsent)?;
-    Ok(with_version(f, two_for_one(z)))
+    version_by(at, two_for_one, f)
 }
 
 // The steps' entries, and then the forced version.

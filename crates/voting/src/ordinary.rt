@@ -22,8 +22,7 @@ const STEPS: [i32; 9] = [25000, 10, 0, 0, 0, 0, 0, 0, 1];
 fn hundredth(z: i32) -> i32
     ensures { result ≡ hundredth z }
 {
-    let q = z / 100;
-    if 1 < q { q } else { 1 }
+    (z / 100).max(1)
 }
 
 fn step_size(fixed: i32, z: i32) -> i32

@@ -34,68 +34,31 @@ pub struct Table {
 
 impl Table {
     // The entry of an id; an id without one is absent.
+    #[tactic(auto, unfolding(crate::specs::Table::lookup))]
     pub fn get(self, id: u8) -> Value
         ensures { result ≡ lookup self id }
     {
-        let f = self.fork;
-        if id == ID_SOFT_FORK_VOTES_COLLECTED {
-            return f.votes;
+        match id {
+            ID_SOFT_FORK_VOTES_COLLECTED => self.fork.votes,
+            ID_SOFT_FORK_STARTING_HEIGHT => self.fork.start,
+            ID_BLOCK_VERSION => self.fork.version,
+            1..=ID_SUBBLOCKS_PER_BLOCK => self.ordinary[(id - 1) as usize],
+            _ => None,
         }
-        if id == ID_SOFT_FORK_STARTING_HEIGHT {
-            return f.start;
-        }
-        if id == ID_BLOCK_VERSION {
-            return f.version;
-        }
-        if id < 1 {
-            return None;
-        }
-        if ID_SUBBLOCKS_PER_BLOCK < id {
-            return None;
-        }
-        self.ordinary[(id - 1) as usize]
     }
 
     // The table with the entry of an id written, or removed by an absent value; an id without one changes nothing.
+    #[tactic(auto, unfolding(crate::specs::Table::update))]
     pub fn with(mut self, id: u8, value: Value) -> Table
         ensures { result ≡ update self id value }
     {
-        let f = self.fork;
-        let votes = f.votes;
-        let start = f.start;
-        let version = f.version;
-        let ordinary = self.ordinary;
-        if id == ID_SOFT_FORK_VOTES_COLLECTED {
-            let fork = Fork {
-                votes: value,
-                start,
-                version,
-            };
-            return Table { ordinary, fork };
+        match id {
+            ID_SOFT_FORK_VOTES_COLLECTED => self.fork.votes = value,
+            ID_SOFT_FORK_STARTING_HEIGHT => self.fork.start = value,
+            ID_BLOCK_VERSION => self.fork.version = value,
+            1..=ID_SUBBLOCKS_PER_BLOCK => self.ordinary[(id - 1) as usize] = value,
+            _ => {}
         }
-        if id == ID_SOFT_FORK_STARTING_HEIGHT {
-            let fork = Fork {
-                votes,
-                start: value,
-                version,
-            };
-            return Table { ordinary, fork };
-        }
-        if id == ID_BLOCK_VERSION {
-            let fork = Fork {
-                votes,
-                start,
-                version: value,
-            };
-            return Table { ordinary, fork };
-        }
-        if id < 1 {
-            return self;
-        }
-        if ID_SUBBLOCKS_PER_BLOCK < id {
-            return self;
-        }
-        self.ordinary[(id - 1) as usize] = value;
         self
     }
 }

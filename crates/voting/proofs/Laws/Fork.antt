@@ -1,7 +1,6 @@
 -- The fork check and the fork part, by the ways through the code.
 -- Assumes nothing.
 use Rattle.std.proofs.Common.{◌≡◌, ℕ, ◌+◌, ◌*◌, ◌^◌, ◌<◌, Bool, true, false, cond, not, ◌&&◌, ◌||◌, eqb, ltb, leb, List, ℤ, pos, negsuc, ◌+ℤ◌, sym, refl, ap, ◌∙◌, true≢false, arith, w32, SFits, to_z, of_z, eq-eqb, ne_eqb, leb-true}
-use mathlib.Core.Bool.{false≢true}
 use borrow.Author.Tests.{lt-leb}
 use lib.Signed.{le_z}
 use mir.ValLaws.{to_z-of_z}
@@ -10,7 +9,7 @@ use Rattle.voting.specs.Value.{Value}
 use Rattle.std.specs.Prelude.{None, Some, Result, Ok, Err}
 use Rattle.std.specs.Option.{ok_or}
 use Rattle.codec.specs.declared.refusal.Refusal.{Refusal}
-use Rattle.codec.specs.declared.refusal.Refusal.TheVariants.{ForkVoteBarred, VotingLengthZero, SettingLarge, VotesCollectedAbsent, BlockVersionAbsent}
+use Rattle.codec.specs.declared.refusal.Refusal.TheVariants.{ForkVoteBarred, VotingLengthZero, SettingLarge, VotesCollectedAbsent}
 use Rattle.codec.specs.Check.{Check, passed}
 use Rattle.voting.specs.declared.table.Fork.{Fork}
 use Rattle.voting.specs.declared.table.Table.{Table}
@@ -140,32 +139,6 @@ total-is votes n h f a r is-a is-r = is-r ∙ ap (λ (z : ℤ). wrapped 32 (z +�
 pub begun-at : (opens : Bool) (h : ℕ) (f : Fork) (z : ℤ) → h < 2 ^ 32 → z ≡ signed_of 32 h → opens ≡ true → fork_entries (Some (pos 0)) (Some z) f.version ≡ begun opens h f
 unfolding begun
 begun-at opens h f z l is-z e = rw (e, is-z, wrapped-pos w32 h l)
-
--- a version that is changed, or not
-module _ (next : ℤ → ℤ) (f : Fork) where
-  pub version-stays : (changes : Bool) → not changes ≡ true → Ok f ≡ version_by changes next f f.version
-  unfolding version_by
-  version-stays true e = absurd (false≢true e)
-  version-stays false e = go f.version refl
-    where
-      go : (v : Value) → f.version ≡ v → Ok f ≡ version_by false next f v
-      go None q = refl
-      go (Some z) q = rw (← q)
-
-  pub version-absent : (changes : Bool) → not changes ≡ false → (d : Refusal) → ok_or f.version BlockVersionAbsent ≡ Err d → Err d ≡ version_by changes next f f.version
-  unfolding version_by
-  version-absent true e d q = go f.version q
-    where
-      go : (v : Value) → ok_or v BlockVersionAbsent ≡ Err d → Err d ≡ version_by true next f v
-      go None q = let i : d ≡ BlockVersionAbsent = cc in ap Err i
-      go (Some z) q = absurd cc
-  version-absent false e d q = absurd (true≢false e)
-
-  pub version-next : (changes : Bool) → not changes ≡ false → (z n : ℤ) → f.version ≡ Some z → n ≡ next z
-      → Ok (fork_entries f.votes f.start (Some n)) ≡ version_by changes next f f.version
-  unfolding version_by
-  version-next true e z n q is-n = ap {B = Result Fork Refusal} (λ (y : ℤ). Ok (fork_entries f.votes f.start (Some y))) is-n ∙ sym (ap (version_by true next f) q)
-  version-next false e z n q is-n = absurd (true≢false e)
 
 -- the steps' entries and then the forced version
 module _ (g : VotingConfig) (h : ℕ) (round : Round) (f : Result Fork Refusal) where

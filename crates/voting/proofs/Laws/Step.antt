@@ -1,11 +1,10 @@
 -- The arithmetic of the steps: the three lists are small, and a step fits 32 bits.
 -- Assumes nothing.
-use Rattle.std.proofs.Common.{◌≡◌, ℕ, zero, suc, ◌+◌, ◌-◌, ◌/◌, ◌^◌, ◌<◌, ◌≤◌, Bool, true, false, cond, ltb, leb, List, [], ◌∷◌, get_or, ℤ, pos, negsuc, ◌+ℤ◌, ◌-ℤ◌, neg_ℤ, refl, ap, le_of_suc-le-suc, lt_of_le_of_lt, div-le_self, arith, w32, SFits, to_z, of_z, ltb-true, lt-ltb, leb-true}
+use Rattle.std.proofs.Common.{◌≡◌, ℕ, zero, suc, ◌+◌, ◌-◌, ◌/◌, ◌^◌, ◌<◌, ◌≤◌, Bool, true, false, cond, ltb, leb, List, [], ◌∷◌, get_or, ℤ, pos, negsuc, ◌+ℤ◌, ◌-ℤ◌, neg_ℤ, refl, ap, arith, w32, SFits, ltb-true, lt-ltb, leb-true}
 use mathlib.Core.Path.{subst⁻¹}
 use mathlib.Core.Bool.{false≢true}
 use lib.IntN.{sub_ℕ}
-use lib.Signed.{mag, lt_z, quot_z}
-use mir.ValLaws.{to_z-of_z}
+use lib.Signed.{mag, lt_z}
 use Rattle.voting.specs.Ordinary.{least, greatest, steps, least_of, greatest_of, fixed_step_of, hundredth, step_size}
 use Rattle.voting.proofs.Laws.Tests.{both, every}
 
@@ -27,20 +26,6 @@ least-small m = small 1073741823 least refl (m - 1)
 pub step_small : (m : ℕ) → mag (fixed_step_of m) ≤ 25000
 unfolding fixed_step_of every
 step_small m = small 25000 steps refl (m - 1)
-
--- a quotient toward zero is no larger
-mag-quot : (z : ℤ) (d : ℕ) → mag (quot_z z (pos d)) ≤ mag z
-mag-quot (pos a) d = div-le_self a d
-mag-quot (negsuc a) d = go (suc a / d) (div-le_self (suc a) d)
-  where
-    go : (r : ℕ) → r ≤ suc a → mag (neg_ℤ (pos r)) ≤ a
-    go zero h = omega arith
-    go (suc r) h = le_of_suc-le-suc h
-
-pub quot-back : (z : ℤ) → SFits w32 z → SFits w32 (quot_z (to_z w32 (of_z w32 z)) (pos 100)) × (to_z w32 (of_z w32 (quot_z (to_z w32 (of_z w32 z)) (pos 100))) ≡ quot_z z (pos 100))
-quot-back z f =
-    let h : SFits w32 (quot_z z (pos 100)) = record { sfits = lt_of_le_of_lt (mag-quot z 100) f.sfits } in
-    rw (to_z-of_z w32 z f) (h, to_z-of_z w32 (quot_z z (pos 100)) h)
 
 -- the size of a step: a positive number, at most 25,000 or a hundredth of the value's magnitude
 pub record Size (z s : ℤ) : Type 0 where
