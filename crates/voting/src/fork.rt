@@ -1,5 +1,6 @@
 // Soft-fork rounds: the fork check of a header, and the fork part of a boundary. docs/RULES.md, "Fork check" and "Boundary".
-ghost use Rattle.std.specs.Prelude.{◌≡◌, ◌*◌, ◌<◌, false, pos, ℤ, ◌+ℤ◌, if◌then◌else◌};
+ghost use Rattle.std.specs.Prelude.{◌≡◌, ◌*◌, ◌<◌, pos, ℤ, Ok, Err, ◌+ℤ◌, if◌then◌else◌};
+ghost use Rattle.codec.specs.declared.refusal.Refusal.TheVariants.{SettingLarge};
 ghost use Rattle.voting.specs.Settings.{voting_length, settings_large};
 ghost use Rattle.voting.specs.ForkCheck.{barred, check_round, check_fork_vote, round_open, votes_open};
 ghost use Rattle.voting.specs.ForkPart.{no_round, phase_at, fork_total, reads_total, closes_late, closes_early, restarts, rises, version_by, without, begun, collected, one_more, risen, five_steps, round_steps, two_for_one, forced, finished, running, opening, fork_part};
@@ -9,6 +10,7 @@ use crate::settings::VotingConfig;
 use crate::table::{Fork, Table, Value};
 use codec::refusal::Refusal;
 use codec::signed;
+use std::marker::Model;
 
 // Where a height stands in an open round: at its late or its early closing height, where its votes are collected, where the version rises.
 #[derive(Clone, Copy)]
@@ -44,33 +46,74 @@ fn epochs_after(start: i32, length: u32, k: u32) -> u64
     (s as u64) + (length as u64) * (k as u64)
 }
 
-fn is_barred(config: VotingConfig, height: u32, start: i32, votes: i32) -> bool
-    requires { settings_large config ≡ false }
-    ensures { result ≡ barred config height start votes }
-{
-    let l = config.voting_length;
-    let v = config.soft_fork_epochs;
-    let a = config.activation_epochs;
-    let h = height as u64 + 2147483648;
-    let from = epochs_after(start, l, v);
-    let early = epochs_after(start, l, v + 1);
-    let late = epochs_after(start, l, v + a + 1);
-    let approved = config.soft_fork_approved(votes);
-    ((from <= h) & (h < early) & !approved) | ((from <= h) & (h < late) & approved)
+// Settings that are not large: the sums of their epochs fit.
+#[derive(Clone, Copy)]
+struct Moderate(VotingConfig);
+
+impl Model for Moderate {
+    ghost use Rattle.std.specs.Prelude.{◌≤◌};
+    ghost use Rattle.voting.specs.declared.settings.VotingConfig.{VotingConfig};
+
+    ghost Value = { VotingConfig };
+
+    ghost view = { λ m. m.0 };
+
+    ghost invariant = { λ m. (m.0.soft_fork_epochs ≤ 65535) × (m.0.activation_epochs ≤ 65535) };
+
+    ghost inverse = { λ g. record { 0 = g } };
 }
 
-fn check_round(config: VotingConfig, height: u32, start: Value, votes: Value) -> Result<(), Refusal>
-    requires { settings_large config ≡ false }
-    ensures { result ≡ check_round config height start votes }
-{
-    let Some(s) = start else {
-        return Ok(());
-    };
-    let n = votes.ok_or(Refusal::VotesCollectedAbsent)?;
-    if is_barred(config, height, s, n) {
-        return Err(Refusal::ForkVoteBarred);
+impl Moderate {
+    fn of(config: VotingConfig) -> Result<Moderate, Refusal>
+        ensures { result ≡ (if settings_large config then Err SettingLarge else Ok config) }
+    {
+        if config.settings_large() {
+            return Err(Refusal::SettingLarge);
+        }
+        Ok(Moderate(config))
     }
-    Ok(())
+
+    fn is_barred(self, height: u32, start: i32, votes: i32) -> bool
+        ensures { result ≡ barred self height start votes }
+    {
+        let l = self.0.voting_length;
+        let v = self.0.soft_fork_epochs;
+        let a = self.0.activation_epochs;
+        let h = height as u64 + 2147483648;
+        let from = epochs_after(start, l, v);
+        let early = epochs_after(start, l, v + 1);
+        let late = epochs_after(start, l, v + a + 1);
+        let approved = self.0.soft_fork_approved(votes);
+        ((from <= h) & (h < early) & !approved) | ((from <= h) & (h < late) & approved)
+    }
+
+    fn check_round(self, height: u32, start: Value, votes: Value) -> Result<(), Refusal>
+        ensures { result ≡ check_round self height start votes }
+    {
+        let Some(s) = start else {
+            return Ok(());
+        };
+        let n = votes.ok_or(Refusal::VotesCollectedAbsent)?;
+        if self.is_barred(height, s, n) {
+            return Err(Refusal::ForkVoteBarred);
+        }
+        Ok(())
+    }
+
+    fn phase_at(self, height: u32, start: i32) -> Phase
+        ensures { result ≡ phase_at self height start }
+    {
+        let l = self.0.voting_length;
+        let v = self.0.soft_fork_epochs;
+        let a = self.0.activation_epochs;
+        let h = height as u64 + 2147483648;
+        Phase {
+            late: h == epochs_after(start, l, v + a + 1),
+            early: h == epochs_after(start, l, v + 1),
+            voting: h <= epochs_after(start, l, v),
+            rising: h == epochs_after(start, l, v + a),
+        }
+    }
 }
 
 // Whether a header at a height may vote as it does; or 12, 18, 19.
@@ -82,11 +125,9 @@ pub fn check_fork_vote(
 ) -> Result<(), Refusal>
     ensures { result ≡ check_fork_vote config height votes table }
 {
-    if config.settings_large() {
-        return Err(Refusal::SettingLarge);
-    }
+    let settings = Moderate::of(config)?;
     if header::votes_for(header::SOFT_FORK_VOTE, votes) {
-        return check_round(config, height, table.fork.start, table.fork.votes);
+        return settings.check_round(height, table.fork.start, table.fork.votes);
     }
     Ok(())
 }
@@ -122,22 +163,6 @@ pub(crate) fn no_round() -> Round
         closed: false,
         rose: false,
         total: None,
-    }
-}
-
-fn phase_at(config: VotingConfig, height: u32, start: i32) -> Phase
-    requires { settings_large config ≡ false }
-    ensures { result ≡ phase_at config height start }
-{
-    let l = config.voting_length;
-    let v = config.soft_fork_epochs;
-    let a = config.activation_epochs;
-    let h = height as u64 + 2147483648;
-    Phase {
-        late: h == epochs_after(start, l, v + a + 1),
-        early: h == epochs_after(start, l, v + 1),
-        voting: h <= epochs_after(start, l, v),
-        rising: h == epochs_after(start, l, v + a),
     }
 }
 
@@ -373,9 +398,7 @@ pub(crate) fn fork_part(
     if config.voting_length == 0 {
         return Err(Refusal::VotingLengthZero);
     }
-    if config.settings_large() {
-        return Err(Refusal::SettingLarge);
-    }
+    let settings = Moderate::of(config)?;
     match old.start {
         None => opening(config, height, vote, old),
         Some(s) => running(
@@ -384,7 +407,7 @@ pub(crate) fn fork_part(
             vote,
             votes,
             old,
-            phase_at(config, height, s),
+            settings.phase_at(height, s),
             old.votes,
         ),
     }

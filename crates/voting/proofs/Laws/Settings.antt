@@ -1,12 +1,11 @@
--- The limit of a fork total, and settings that are not large.
+-- A product that fits, and the limit of a fork total.
 -- Assumes nothing.
-use Rattle.std.proofs.Common.{◌≡◌, ℕ, ◌-◌, ◌*◌, ◌/◌, ◌%◌, ◌^◌, ◌<◌, ◌≤◌, true, false, ◌||◌, T, ltb, ℤ, pos, negsuc, nat_abs, refl, mul-le-mul, arith, w32, w64, Fits, SFits, to_z, of_z, ltb-false, ltb-true}
+use Rattle.std.proofs.Common.{◌≡◌, ℕ, ◌-◌, ◌*◌, ◌/◌, ◌%◌, ◌^◌, ◌<◌, ◌≤◌, true, false, T, ltb, ℤ, pos, negsuc, nat_abs, refl, mul-le-mul, arith, w32, w64, Fits, SFits, to_z, of_z, ltb-true}
 use lib.Signed.{lt_z, non_neg}
 use mir.ValLaws.{to_z-of_z}
 use Rattle.codec.proofs.Laws.Signed.{pos-cast}
 use Rattle.voting.specs.declared.settings.VotingConfig.{VotingConfig}
-use Rattle.voting.proofs.Laws.Tests.{neither}
-use Rattle.voting.specs.Settings.{voting_length, vote_epochs, activation_epochs, fork_limit, soft_fork_approved, settings_large}
+use Rattle.voting.specs.Settings.{voting_length, vote_epochs, fork_limit, soft_fork_approved}
 
 -- a product of two numbers of 32 bits leaves room for a third
 pub product : (a b : ℕ) → a < 2 ^ 32 → b < 2 ^ 32 → a * b ≤ 18446744065119617025
@@ -47,20 +46,3 @@ module _ (g : VotingConfig) (z : ℤ) (f : SFits w32 z) where
 
   pub cast-64 : lt_z (to_z w32 (of_z w32 z)) (pos 0) ≡ false → T (non_neg (to_z w32 (of_z w32 z))) × Fits w64 (nat_abs (to_z w32 (of_z w32 z)))
   cast-64 t = let p = pos-cast w32 z f t in (p.0, omega (arith, p.1))
-
--- settings that are not large
-pub record Moderate (g : VotingConfig) : Type 0 where
-  pub length-fits : voting_length g ≤ 65535
-  pub votes-fit : vote_epochs g ≤ 65535
-  pub activation-fits : activation_epochs g ≤ 65535
-
-pub moderate : (g : VotingConfig) → settings_large g ≡ false → Moderate g
-unfolding settings_large
-moderate g e =
-    let a = neither (ltb 65535 (voting_length g) || ltb 65535 (vote_epochs g)) (ltb 65535 (activation_epochs g)) e in
-    let b = neither (ltb 65535 (voting_length g)) (ltb 65535 (vote_epochs g)) a.0 in
-    record {
-      length-fits = ltb-false 65535 (voting_length g) b.0;
-      votes-fit = ltb-false 65535 (vote_epochs g) b.1;
-      activation-fits = ltb-false 65535 (activation_epochs g) a.1;
-    }

@@ -1,16 +1,15 @@
-use Rattle.voting.proofs.Laws.Fork.{begun-at}
-use Rattle.voting.specs.ForkPart.{begun}
-use Rattle.std.proofs.Common.{◌^◌, ◌<◌, ◌∙◌, w32, SFits, to_z, of_z, rules}
+use Rattle.std.proofs.Common.{◌^◌, ◌<◌, arith, w32, rules}
 use mir.ValLaws.{to_z-of_z}
+use Rattle.codec.proofs.Laws.Signed.{wrapped-pos}
+use Rattle.voting.specs.ForkPart.{begun}
 use Rattle.voting.proofs.fork.begun.Goals as goal
 
 pub returns-then-opens : goal.returns-then-opens
-returns-then-opens c = let a = c.args in
-    let l : a.height < 2 ^ 32 = search rules in
-    let r = c.i32_of.result in
-    let f : SFits w32 r = search rules in
-    begun-at a.opens a.height a.f (to_z w32 (of_z w32 r)) l (to_z-of_z w32 r f ∙ c.i32_of.ensures) c.if-opens.true
+unfolding begun
+returns-then-opens c = let l : c.args.height < 2 ^ 32 = search rules in
+    let w = wrapped-pos w32 c.args.height l in
+    grind (arith, to_z-of_z)
 
 pub returns : goal.returns
 unfolding begun
-returns c = rw c.if-opens.false
+returns c = grind arith

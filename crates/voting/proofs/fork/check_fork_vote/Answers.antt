@@ -1,15 +1,16 @@
-use Rattle.std.proofs.Common.{sym, ◌∙◌}
-use Rattle.voting.proofs.Laws.Fork.{check-large, check-silent, check-voting}
+use Rattle.std.proofs.Common.{arith}
+use Rattle.voting.specs.ForkCheck.{check_fork_vote}
+use Rattle.voting.specs.Table.{lookup}
 use Rattle.voting.proofs.fork.check_fork_vote.Goals as goal
 
-pub returns-then-settings_large : goal.returns-then-settings_large
-returns-then-settings_large c = check-large _ _ _ _ _ c.settings_large.ensures c.if-settings_large.true
-
-pub check_round-requires : goal.check_round-requires
-check_round-requires c = sym c.settings_large.ensures ∙ c.if-settings_large.false
+pub returns-in_err-settings : goal.returns-in_err-settings
+unfolding check_fork_vote
+returns-in_err-settings c = grind arith
 
 pub returns-then-votes_for : goal.returns-then-votes_for
-returns-then-votes_for c = check-voting _ _ _ _ _ c.settings_large.ensures c.if-settings_large.false _ c.votes_for.ensures c.if-votes_for.true _ c.check_round.ensures
+unfolding check_fork_vote lookup
+returns-then-votes_for c = grind arith
 
 pub returns : goal.returns
-returns c = check-silent _ _ _ _ _ c.settings_large.ensures c.if-settings_large.false _ c.votes_for.ensures c.if-votes_for.false
+unfolding check_fork_vote
+returns c = grind arith

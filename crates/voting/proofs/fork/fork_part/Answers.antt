@@ -1,25 +1,20 @@
-use Rattle.std.proofs.Common.{sym, ◌∙◌, w32, SFits, rules}
-use Rattle.voting.specs.ForkPart.{by_start}
-use Rattle.voting.proofs.Laws.Fork.{part-zero, part-large, part_by}
+use Rattle.std.proofs.Common.{arith}
 use mir.ValLaws.{to_z-of_z}
+use Rattle.voting.specs.ForkPart.{by_start, fork_part}
 use Rattle.voting.proofs.fork.fork_part.Goals as goal
 
 pub returns-then-config-eq0 : goal.returns-then-config-eq0
-returns-then-config-eq0 c = part-zero _ _ _ _ _ c.if-config-eq0.true
+unfolding fork_part
+returns-then-config-eq0 c = grind arith
 
-pub returns-then-settings_large : goal.returns-then-settings_large
-returns-then-settings_large c = part-large _ _ _ _ _ c.if-config-eq0.false _ c.settings_large.ensures c.if-settings_large.true
-
-pub phase_at-requires : goal.phase_at-requires
-phase_at-requires c = sym c.settings_large.ensures ∙ c.if-settings_large.false
+pub returns-in_err-settings : goal.returns-in_err-settings
+unfolding fork_part
+returns-in_err-settings c = grind arith
 
 pub returns-in-None : goal.returns-in-None
-unfolding by_start
-returns-in-None c = part_by _ _ _ _ _ c.if-config-eq0.false _ c.settings_large.ensures c.if-settings_large.false _ c.in-None.is _ c.opening.ensures
+unfolding fork_part by_start
+returns-in-None c = grind arith
 
 pub returns-in-Some : goal.returns-in-Some
-unfolding by_start
-returns-in-Some c = let s = c.in-Some.s in
-    let fs : SFits w32 s = search rules in
-    part_by _ _ _ _ _ c.if-config-eq0.false _ c.settings_large.ensures c.if-settings_large.false _ c.in-Some.is _
-    (c.running.ensures ∙ rw (c.phase_at.ensures, to_z-of_z w32 s fs))
+unfolding fork_part by_start
+returns-in-Some c = grind (arith, to_z-of_z)

@@ -1,13 +1,17 @@
-use Rattle.std.proofs.Common.{w32, SFits, rules}
-use Rattle.voting.proofs.Laws.Fork.{plain, open_none, open-orphan, open-below}
+use Rattle.std.proofs.Common.{arith}
+use mir.ValLaws.{to_z-of_z}
+use Rattle.voting.specs.ForkCheck.{epochs_after, round_open}
+use Rattle.voting.proofs.Laws.Integers.{at_most}
 use Rattle.voting.proofs.fork.round_open.Goals as goal
 
 pub returns-in-None : goal.returns-in-None
-returns-in-None c = open_none _ _ _ _ c.in-None.is
+unfolding round_open
+returns-in-None c = grind arith
 
 pub returns-in-None-votes : goal.returns-in-None-votes
-returns-in-None-votes c = open-orphan _ _ _ _ c.in-Some.s c.in-Some.is c.in-None-votes.is
+unfolding round_open
+returns-in-None-votes c = grind arith
 
 pub returns-in-Some-votes : goal.returns-in-Some-votes
-returns-in-Some-votes c = let fs : SFits w32 c.in-Some.s = search rules in
-    open-below _ _ _ _ c.in-Some.s c.in-Some.is c.in-Some-votes.field-0 c.in-Some-votes.is _ (plain _ _ _ _ fs c.epochs_after-from.ensures)
+unfolding round_open epochs_after
+returns-in-Some-votes c = grind (arith, to_z-of_z, at_most)

@@ -1,5 +1,8 @@
-use Rattle.voting.proofs.Laws.Fork.{open_told}
+use Rattle.std.proofs.Common.{arith}
+use Rattle.voting.specs.Table.{lookup}
+use Rattle.voting.specs.ForkCheck.{votes_open}
 use Rattle.voting.proofs.fork.votes_open.Goals as goal
 
 pub returns : goal.returns
-returns c = open_told _ _ _ _ _ c.settings_large.ensures c.round_open.ensures
+unfolding votes_open lookup
+returns c = grind arith
