@@ -6,54 +6,50 @@ ghost use Rattle.codec.specs.Signed.{bits_of, signed_of, wrapped};
 pub fn bits_i8(x: i8) -> u8
     ensures { result ≡ bits_of 8 x }
 {
-    if x < 0 { !((!x) as u8) } else { x as u8 }
+    x.cast_unsigned()
 }
 
 pub fn bits_i16(x: i16) -> u16
     ensures { result ≡ bits_of 16 x }
 {
-    if x < 0 { !((!x) as u16) } else { x as u16 }
+    x.cast_unsigned()
 }
 
 pub fn bits_i32(x: i32) -> u32
     ensures { result ≡ bits_of 32 x }
 {
-    if x < 0 { !((!x) as u32) } else { x as u32 }
+    x.cast_unsigned()
 }
 
 // Bits read as a signed number, at three widths.
 pub fn i8_of(b: u8) -> i8
     ensures { result ≡ signed_of 8 b }
 {
-    if b < 0x80 { b as i8 } else { !((!b) as i8) }
+    b.cast_signed()
 }
 
 pub fn i16_of(b: u16) -> i16
     ensures { result ≡ signed_of 16 b }
 {
-    if b < 0x8000 { b as i16 } else { !((!b) as i16) }
+    b.cast_signed()
 }
 
 pub fn i32_of(b: u32) -> i32
     ensures { result ≡ signed_of 32 b }
 {
-    if b < 0x8000_0000 {
-        b as i32
-    } else {
-        !((!b) as i32)
-    }
+    b.cast_signed()
 }
 
 // The sum, wrapped to 32 bits.
 pub fn wrapping_add_i32(a: i32, b: i32) -> i32
     ensures { result ≡ wrapped 32 (a +ℤ b) }
 {
-    i32_of(std::num::wrapping_add_u32(bits_i32(a), bits_i32(b)))
+    a.wrapping_add(b)
 }
 
 // The negation, wrapped to 8 bits: -128 stays.
 pub fn wrapping_neg_i8(x: i8) -> i8
     ensures { result ≡ wrapped 8 (neg_ℤ x) }
 {
-    if x == -128 { x } else { 0 - x }
+    x.wrapping_neg()
 }

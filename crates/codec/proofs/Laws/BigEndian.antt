@@ -3,8 +3,10 @@
 use Rattle.std.proofs.Common.{◌≡◌, ℕ, zero, suc, ◌+◌, ◌*◌, ◌/◌, ◌%◌, ◌^◌, ◌<◌, List, [], ◌∷◌, length, get_or, ℤ, sym, refl, ap, ◌∙◌, mod-eq_of_lt, pow-suc, div-one, arith, w32, SFits}
 use native.Mathlib.Nat.{pow-succ', mul-add-div_right}
 use lib.Arith.{mod-mul, digits_lt, digits_div}
+use Rattle.std.specs.Int.{from_be_bytes, to_be_bytes}
 use Rattle.codec.specs.BigEndian.{big_endian, big_endian_bytes}
 use Rattle.codec.specs.Signed.{bits_of, signed_of}
+use Rattle.codec.proofs.Laws.Lists.{elements, all-elements}
 use Rattle.codec.proofs.Laws.Signed.{bits_back, bits_fit, signed_back}
 
 pub bytes-length : (n x : ℕ) → length (big_endian_bytes n x) ≡ n
@@ -63,5 +65,13 @@ pub number-back : (x : ℤ) → SFits w32 x → signed_of 32 (big_endian (big_en
 number-back x f =
     ap (signed_of 32) (number-of-bytes 4 (bits_of 32 x) ∙ mod-eq_of_lt (bits_fit w32 x f)) ∙ bits_back w32 x f
 
-pub bytes_back : (n : ℕ) → n < 2 ^ 32 → big_endian_bytes 4 (bits_of 32 (signed_of 32 n)) ≡ big_endian_bytes 4 n
-bytes_back n h = ap (big_endian_bytes 4) (signed_back w32 n h)
+pub bytes_back : (bs : List ℕ) → length bs ≡ 4 → ((i : ℕ) → get_or bs i 0 < 256) → big_endian_bytes 4 (bits_of 32 (signed_of 32 (big_endian bs))) ≡ bs
+bytes_back bs l h = ap (big_endian_bytes 4) (signed_back w32 (big_endian bs) (rw l at (bytes_small bs h))) ∙ (rw l at (bytes-of-number bs h))
+
+-- std's words for both ways
+pub from_bytes-is : (bs : List ℕ) → length bs ≡ 4 → from_be_bytes w32 bs ≡ big_endian bs
+unfolding big_endian
+from_bytes-is bs l = let q : from_be_bytes w32 bs ≡ big_endian (elements 4 0 bs) = omega arith in q ∙ ap big_endian (all-elements 4 bs l)
+
+pub to_bytes-is : (n : ℕ) → to_be_bytes w32 n ≡ big_endian_bytes 4 n
+to_bytes-is n = four_bytes_lem n

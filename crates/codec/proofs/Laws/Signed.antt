@@ -1,13 +1,12 @@
--- Laws of two's complement over a width w, for code that turns a signed number into its bits and back by `!`.
+-- Laws of two's complement over a width w.
 -- Assumes nothing.
-use Rattle.std.proofs.Common.{◌≡◌, ℕ, zero, suc, ◌+◌, ◌-◌, ◌%◌, ◌^◌, ◌<◌, ◌≤◌, Bool, true, false, cond, T, ltb, ℤ, pos, negsuc, ◌+ℤ◌, ◌-ℤ◌, neg_ℤ, nat_abs, sym, refl, ap, ◌∙◌, subst, mod-eq_of_lt, arith, w8, w16, w32, w64, Fits, SFits, to_z, of_z, ltb-false, ltb-true}
-use mathlib.Core.Path.{subst⁻¹}
+use Rattle.std.proofs.Common.{◌≡◌, ℕ, suc, ◌+◌, ◌-◌, ◌%◌, ◌^◌, ◌<◌, ◌≤◌, Bool, true, false, cond, T, ltb, ℤ, pos, negsuc, ◌+ℤ◌, nat_abs, sym, refl, ap, ◌∙◌, subst, mod-eq_of_lt, arith, w8, w16, w32, w64, Fits, SFits, to_z, of_z, ltb-false, ltb-true}
 use native.Mathlib.Nat.{add-mod_right}
-use lib.IntN.{+ℤ_idl}
 use lib.Signed.{mag, lt_z, non_neg}
 use mir.Syntax.{Width, w128}
 use mir.Val.{bits, hbits, sel}
 use mir.ValLaws.{pow-bits, to_z-of_z, to_z_pos, of_z_fits, to_z-Fits, of_z-to_z}
+use Rattle.std.specs.Int.{int_wrap}
 use Rattle.codec.specs.Signed.{modulo, bits_of, signed_of, wrapped}
 
 -- the machine's reading of bits is the definition's
@@ -33,6 +32,12 @@ of_z-is w (negsuc n) f = ap (λ (m : ℕ). 2 ^ bits w - suc m) (sym (mod-eq_of_l
 pub wraps-to : (w : Width) (z : ℤ) → SFits w z → wrapped (bits w) z ≡ z
 unfolding wrapped
 wraps-to w z f = sym (to_z-is w (bits_of (bits w) z)) ∙ ap (to_z w) (sym (of_z-is w z f)) ∙ to_z-of_z w z f
+
+-- std's word for wrapping
+pub wrapped-is : (w : Width) (z : ℤ) → int_wrap w z ≡ wrapped (bits w) z
+unfolding int_wrap wrapped bits_of modulo
+wrapped-is w (pos n) = to_z-is w (n % 2 ^ bits w)
+wrapped-is w (negsuc n) = to_z-is w (2 ^ bits w - 1 - n % 2 ^ bits w) ∙ ap (signed_of (bits w)) (omega arith)
 
 -- the bits of a number, read as signed, are the number; the bits that were read are the number's bits
 pub bits_back : (w : Width) (z : ℤ) → SFits w z → signed_of (bits w) (bits_of (bits w) z) ≡ z
@@ -60,26 +65,13 @@ not_neg w (negsuc n) f t = absurd (subst T (rw (to_z-of_z w (negsuc n) f) at t) 
 pub flip : (w : Width) (n : ℕ) → n < 2 ^ hbits w → to_z w ((2 ^ bits w - 1) - (2 ^ bits w - suc n)) ≡ pos n
 flip w n h = ap (to_z w) (omega (arith, pow-bits w)) ∙ to_z_pos w n h
 
--- The needs of `if x < 0 { !((!x) as uN) } else { x as uN }`
+-- The needs of `(!x) as uN` where x is below 0, and of `x as uN` where it is not
 module _ (w : Width) (z : ℤ) (f : SFits w z) where
   pub neg-cast : lt_z (to_z w (of_z w z)) (pos 0) ≡ true → T (non_neg (to_z w ((2 ^ bits w - 1) - of_z w z))) × Fits w (nat_abs (to_z w ((2 ^ bits w - 1) - of_z w z)))
   neg-cast t = rw (is-neg w z f t, flip w (mag z) f.sfits) (tt, omega (arith, pow-bits w))
 
   pub pos-cast : lt_z (to_z w (of_z w z)) (pos 0) ≡ false → T (non_neg (to_z w (of_z w z))) × Fits w (nat_abs (to_z w (of_z w z)))
   pos-cast t = rw (not_neg w z f t, to_z_pos w (mag z) f.sfits) (tt, omega (arith, pow-bits w))
-
-  pub neg_bits : lt_z (to_z w (of_z w z)) (pos 0) ≡ true → (2 ^ bits w - 1) - nat_abs (to_z w ((2 ^ bits w - 1) - of_z w z)) ≡ bits_of (bits w) z
-  neg_bits t = rw (← of_z-is w z f, is-neg w z f t, flip w (mag z) f.sfits) (omega arith)
-
-  pub pos-bits : lt_z (to_z w (of_z w z)) (pos 0) ≡ false → nat_abs (to_z w (of_z w z)) ≡ bits_of (bits w) z
-  pos-bits t = rw (← of_z-is w z f, not_neg w z f t, to_z_pos w (mag z) f.sfits)
-
--- The needs of `if b < HALF { b as iN } else { !((!b) as iN) }`
-pub unflip : (w : Width) (n : ℕ) → Fits w n → to_z w ((2 ^ bits w - 1) - ((2 ^ bits w - 1) - n)) ≡ signed_of (bits w) n
-unflip w n f = rw (back (2 ^ bits w) n f.fits) (to_z-is w n)
-  where
-    back : (m n : ℕ) → n < m → m - 1 - (m - 1 - n) ≡ n
-    back m n h = omega arith
 
 -- a natural number and a negative one, by whether the sum is negative
 mixed : (M a b : ℕ) (t : Bool) → ltb a (suc b) ≡ t → a < M → b < M → (a + (M - suc b)) % M ≡ modulo M (cond t (negsuc (suc b - suc a)) (pos (a - suc b)))
@@ -117,33 +109,3 @@ wrapped-natural w a b h g =
 pub wrapped-pos : (w : Width) (a : ℕ) → a < 2 ^ bits w → signed_of (bits w) a ≡ wrapped (bits w) (pos a)
 unfolding wrapped bits_of modulo
 wrapped-pos w a h = ap (signed_of (bits w)) (sym (mod-eq_of_lt h))
-
--- the same from the bits of the summands, as a callee's `ensures` has them: a signed argument x stands there as `to_z w (of_z w x)`
-pub bits-add : (w : Width) (a b : ℤ) → SFits w a → SFits w b → {m n : ℕ} → m ≡ bits_of (bits w) (to_z w (of_z w a)) → n ≡ bits_of (bits w) (to_z w (of_z w b)) → (m + n) % 2 ^ bits w ≡ bits_of (bits w) (a +ℤ b)
-bits-add w a b f g p q = rw (p, q, to_z-of_z w a f, to_z-of_z w b g, ← of_z-is w a f, ← of_z-is w b g) (add_wraps w a b f g)
-
--- The needs of `0 - x`, where x is not the least number of its type, whose bits are 2 ^ hbits w
-neg-fits : (w : Width) (z : ℤ) → SFits w z → (of_z w z ≡ 2 ^ hbits w → ⊥) → SFits w (neg_ℤ z)
-neg-fits w (pos zero) f h = f
-neg-fits w (pos (suc n)) f h = record { sfits = omega arith }
-neg-fits w (negsuc n) f h = record { sfits = omega (arith, pow-bits w) }
-
-minus : (w : Width) (z : ℤ) → SFits w z → pos 0 -ℤ to_z w (of_z w z) ≡ neg_ℤ z
-minus w z f = +ℤ_idl (neg_ℤ (to_z w (of_z w z))) ∙ ap neg_ℤ (to_z-of_z w z f)
-
-pub minus-fits : (w : Width) (z : ℤ) → SFits w z → (of_z w z ≡ 2 ^ hbits w → ⊥) → SFits w (pos 0 -ℤ to_z w (of_z w z))
-minus-fits w z f h = subst⁻¹ (SFits w) (minus w z f) (neg-fits w z f h)
-
-pub minus-wraps : (w : Width) (z : ℤ) → SFits w z → (of_z w z ≡ 2 ^ hbits w → ⊥) → to_z w (of_z w (pos 0 -ℤ to_z w (of_z w z))) ≡ wrapped (bits w) (neg_ℤ z)
-minus-wraps w z f h = to_z-of_z w (pos 0 -ℤ to_z w (of_z w z)) (minus-fits w z f h) ∙ minus w z f ∙ sym (wraps-to w (neg_ℤ z) (neg-fits w z f h))
-
-least : (w : Width) (z : ℤ) → SFits w z → of_z w z ≡ 2 ^ hbits w → let y = to_z w (2 ^ hbits w) in to_z w (of_z w y) ≡ wrapped (bits w) (neg_ℤ y) → to_z w (of_z w z) ≡ wrapped (bits w) (neg_ℤ z)
-least w z f e k = subst⁻¹ (λ (y : ℤ). to_z w (of_z w y) ≡ wrapped (bits w) (neg_ℤ y)) (sym (to_z-of_z w z f) ∙ ap (to_z w) e) k
-
-pub minus-least : (w : Width) (z : ℤ) → SFits w z → of_z w z ≡ 2 ^ hbits w → to_z w (of_z w z) ≡ wrapped (bits w) (neg_ℤ z)
-unfolding wrapped bits_of modulo signed_of
-minus-least w8 z f e = least w8 z f e refl
-minus-least w16 z f e = least w16 z f e refl
-minus-least w32 z f e = least w32 z f e refl
-minus-least w64 z f e = least w64 z f e refl
-minus-least w128 z f e = least w128 z f e refl

@@ -1,15 +1,7 @@
-use Rattle.std.proofs.Common.{w8}
-use Rattle.codec.proofs.Laws.Signed.{neg-cast, pos-cast, neg_bits, pos-bits}
+use Rattle.std.proofs.Common.{◌∙◌, w8, of_z, ap}
+use mir.ValLaws.{to_z-of_z}
+use Rattle.codec.proofs.Laws.Signed.{of_z-is}
 use Rattle.codec.proofs.signed.bits_i8.Goals as goal
 
-pub overflow_cast-result : goal.overflow_cast-result
-overflow_cast-result c = neg-cast w8 c.args.x c.ranges.x c.if-x-lt0.true
-
-pub overflow_cast-result-else-x-lt0 : goal.overflow_cast-result-else-x-lt0
-overflow_cast-result-else-x-lt0 c = pos-cast w8 c.args.x c.ranges.x c.if-x-lt0.false
-
-pub returns-then-x-lt0 : goal.returns-then-x-lt0
-returns-then-x-lt0 c = neg_bits w8 c.args.x c.ranges.x c.if-x-lt0.true
-
-pub returns-else-x-lt0 : goal.returns-else-x-lt0
-returns-else-x-lt0 c = pos-bits w8 c.args.x c.ranges.x c.if-x-lt0.false
+pub returns : goal.returns
+returns c = c.cast_unsigned.ensures ∙ ap (of_z w8) (to_z-of_z w8 c.args.x c.ranges.x) ∙ of_z-is w8 c.args.x c.ranges.x

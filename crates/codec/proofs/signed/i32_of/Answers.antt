@@ -1,9 +1,7 @@
-use Rattle.std.proofs.Common.{w32}
-use Rattle.codec.proofs.Laws.Signed.{to_z-is, unflip}
+use Rattle.std.proofs.Common.{◌∙◌, w32, rules}
+use mir.ValLaws.{to_z-of_z}
+use Rattle.codec.proofs.Laws.Signed.{to_z-is}
 use Rattle.codec.proofs.signed.i32_of.Goals as goal
 
-pub returns-then-b-lt2147483648 : goal.returns-then-b-lt2147483648
-returns-then-b-lt2147483648 c = to_z-is w32 c.args.b
-
-pub returns-else-b-lt2147483648 : goal.returns-else-b-lt2147483648
-returns-else-b-lt2147483648 c = unflip w32 c.args.b c.ranges.b
+pub returns : goal.returns
+returns c = to_z-of_z w32 c.cast_signed.result (search rules) ∙ c.cast_signed.ensures ∙ to_z-is w32 c.args.b

@@ -1,9 +1,7 @@
-use Rattle.std.proofs.Common.{w8}
-use Rattle.codec.proofs.Laws.Signed.{to_z-is, unflip}
+use Rattle.std.proofs.Common.{◌∙◌, w8, rules}
+use mir.ValLaws.{to_z-of_z}
+use Rattle.codec.proofs.Laws.Signed.{to_z-is}
 use Rattle.codec.proofs.signed.i8_of.Goals as goal
 
-pub returns-then-b-lt128 : goal.returns-then-b-lt128
-returns-then-b-lt128 c = to_z-is w8 c.args.b
-
-pub returns-else-b-lt128 : goal.returns-else-b-lt128
-returns-else-b-lt128 c = unflip w8 c.args.b c.ranges.b
+pub returns : goal.returns
+returns c = to_z-of_z w8 c.cast_signed.result (search rules) ∙ c.cast_signed.ensures ∙ to_z-is w8 c.args.b
