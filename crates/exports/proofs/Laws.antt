@@ -9,7 +9,7 @@ use Rattle.codec.specs.BigEndian.{big_endian}
 use Rattle.codec.specs.declared.refusal.Refusal.TheVariants.{BodyShort, CountUnreadable, FieldHeaderCut, ValueLong, ValueCut, ParameterSize, UpdateUnreadable, MandatoryDisabled, TooManyVotes, RepeatedVote, ContradictoryVote, ForkVoteBarred, UnknownParameter, AbsentParameter, EntryDiffers, BlockVersionDiffers, VotingLengthZero, SettingLarge, VotesCollectedAbsent, BlockVersionAbsent, OutputShort, InputLong, StatusRuleLow, WrittenValueLong, WindowLengthOutside, RecordMalformed, HeightUnexpected}
 use Rattle.codec.specs.Signed.{bits_of, modulo}
 use Rattle.codec.specs.Output.{Outcome, refused, outcome, writes}
-use Rattle.std.specs.Prelude.{Result, Ok, Err}
+use Rattle.std.specs.Prelude.{Result, Ok, Err, Option, Some, None}
 use Rattle.codec.specs.declared.refusal.Refusal.{Refusal}
 use Rattle.codec.specs.Refusal.{number as number_in}
 use Rattle.codec.proofs.Laws.Output.{done}
@@ -18,9 +18,8 @@ use Rattle.wire.specs.Put.{Written}
 use Rattle.exports.specs.Reply.{Reply, reply, answered, numbered, sized, placed, answer_of, number_of, size_of, place_of, minus}
 use Rattle.exports.specs.Calls.{network_of, next_after, next_bytes, walked, WalksAll, into}
 use Rattle.voting.specs.declared.settings.Network.TheVariants.{Testnet}
-use Rattle.legal.specs.declared.next.NextVotes.{NextVotes}
-use Rattle.legal.specs.declared.next.NextVotes.TheVariants.{Votes, Nothing}
-use Rattle.legal.specs.Legal.{number, next_legal_votes, asked}
+use Rattle.legal.specs.declared.next.Votes.{Votes}
+use Rattle.legal.specs.Legal.{number, next_legal_votes, asked, votes}
 use Rattle.legal.proofs.Laws.Next.{lists-all}
 
 -- a writer's answer
@@ -65,10 +64,10 @@ pub through-reply : {X : Type 0} (into : X → List ℕ → Reply) {x y : X} {o 
 through-reply into cells p e = p ∙ ap (λ x. into x cells) e
 
 -- the next legal header: its bytes written, none where there is none, and the three bytes that it was asked with
-pub next-sized : {v w : NextVotes} {o : Reply} (cells : List ℕ) → o ≡ sized (writes (next_bytes v) cells) → v ≡ w → o ≡ sized (writes (next_bytes w) cells)
+pub next-sized : {v w : Option Votes} {o : Reply} (cells : List ℕ) → o ≡ sized (writes (next_bytes v) cells) → v ≡ w → o ≡ sized (writes (next_bytes w) cells)
 next-sized = through-reply (λ v cells. sized (writes (next_bytes v) cells))
 
-pub next-none : (cells : List ℕ) → reply 0 cells ≡ sized (writes (next_bytes Nothing) cells)
+pub next-none : (cells : List ℕ) → reply 0 cells ≡ sized (writes (next_bytes None) cells)
 unfolding answered next_bytes
 next-none cells = ap sized (done [] cells 0 refl (omega arith) cells refl)
 
@@ -77,17 +76,20 @@ unfolding next_after
 next-after votes v e = rw e
 
 -- asked with what was written, as with the answer
-walks : (k : ℕ) (v : NextVotes) → walked k (next_bytes v) ≡ asked next_legal_votes k v
+walks : (k : ℕ) (v : Option Votes) → walked k (next_bytes v) ≡ asked next_legal_votes k v
 unfolding walked next_bytes next_after big_endian asked
 walks zero v = refl
-walks (suc k) Nothing = refl
-walks (suc k) (Votes a b c) =
+walks (suc k) None = refl
+walks (suc k) (Some v) =
+    let a = v.0 in
+    let b = v.1 in
+    let c = v.2 in
     let e : a * 65536 + (b * 256 + (c * 1 + 0)) ≡ number a b c = omega arith in
     ap (λ (n : ℕ). n ∷ walked k (next_bytes (next_legal_votes a b c))) e ∙ ap (λ (l : List ℕ). number a b c ∷ l) (walks k (next_legal_votes a b c))
 
 pub walks-all : WalksAll
 unfolding next_bytes
-walks-all k h = walks k (Votes 0 0 0) ∙ lists-all k h
+walks-all k h = walks k (Some (votes 0 0 0)) ∙ lists-all k h
 
 -- a refusal's number is not 0, and fits a byte
 pub number-some : (e : Refusal) → number_in e ≡ 0 → ⊥

@@ -1,6 +1,6 @@
 -- Calls over lent bytes, each by what its bytes stand for. docs/VECTORS.md, "Bytes", has the bytes.
 -- Assumes nothing.
-use Rattle.std.specs.Prelude.{Result, Ok, Err, ⊤, ◌⊎◌, ℕ, zero, suc, ◌≤◌, ◌≡◌, Bool, cond, get_or}
+use Rattle.std.specs.Prelude.{Result, Ok, Err, ⊤, ◌⊎◌, ℕ, zero, suc, ◌≤◌, ◌≡◌, Bool, cond, get_or, Option, Some, None}
 use mathlib.Core.List.{List, [], ◌∷◌, Permᴰ}
 use Rattle.codec.specs.BigEndian.{big_endian}
 use Rattle.codec.specs.declared.refusal.Refusal.{Refusal}
@@ -22,8 +22,7 @@ use Rattle.voting.specs.Order.{Consistent}
 use Rattle.extension.specs.declared.boundary.Computed.{Computed}
 use Rattle.extension.specs.Boundary.{computed_of}
 use Rattle.lent.specs.declared.boundary.BoundaryAt.{BoundaryAt}
-use Rattle.legal.specs.declared.next.NextVotes.{NextVotes}
-use Rattle.legal.specs.declared.next.NextVotes.TheVariants.{Votes, Nothing}
+use Rattle.legal.specs.declared.next.Votes.{Votes}
 use Rattle.legal.specs.Legal.{next_legal_votes, total, all_legal}
 use Rattle.archive.specs.Replay.{rejection_number, rejection_id}
 use Rattle.wire.specs.State.{state_bytes}
@@ -66,12 +65,12 @@ replayed_id (Ok s) = 0
 replayed_id (Err e) = rejection_id e
 
 -- the next legal header after three vote bytes, and its bytes: none where there is none
-unfoldable pub next_after : List ℕ → NextVotes
+unfoldable pub next_after : List ℕ → Option Votes
 next_after votes = next_legal_votes (get_or votes 0 0) (get_or votes 1 0) (get_or votes 2 0)
 
-unfoldable pub next_bytes : NextVotes → List ℕ
-next_bytes (Votes a b c) = a ∷ b ∷ c ∷ []
-next_bytes Nothing = []
+unfoldable pub next_bytes : Option Votes → List ℕ
+next_bytes (Some v) = v.0 ∷ v.1 ∷ v.2 ∷ []
+next_bytes None = []
 
 -- the numbers of at most k headers, the first of them given, each asked for with the bytes that the call before wrote
 unfoldable pub walked : ℕ → List ℕ → List ℕ

@@ -12,7 +12,6 @@ ghost use Rattle.exports.specs.Calls.{next_after, next_bytes, WalksAll, into};
 
 use crate::answer;
 use legal::next;
-use legal::next::NextVotes;
 use voting::{fork, header, tally};
 use wire::{numbers, values};
 
@@ -40,8 +39,8 @@ pub extern "C" fn ergo_next_legal_votes(votes: &[u8], out: &mut [u8]) -> usize
 {
     let v = numbers::votes_of(votes);
     match next::next_legal_votes(v[0], v[1], v[2]) {
-        NextVotes::Votes(x, y, z) => answer::size_of(numbers::write_bytes(&[x, y, z], out)),
-        NextVotes::Nothing => 0,
+        Some(x) => answer::size_of(numbers::write_bytes(&[x.0, x.1, x.2], out)),
+        None => 0,
     }
 }
 

@@ -1,7 +1,6 @@
 -- The search, as the code goes about it. Laws join it to `next_legal_votes`. Assumes nothing.
-use Rattle.std.specs.Prelude.{ℕ, ◌-◌, ◌%◌, cond, List, [], ◌∷◌, ltb, eqb}
-use Rattle.legal.specs.declared.next.NextVotes.{NextVotes}
-use Rattle.legal.specs.declared.next.NextVotes.TheVariants.{Votes, Nothing}
+use Rattle.std.specs.Prelude.{ℕ, ◌-◌, ◌%◌, cond, List, [], ◌∷◌, ltb, eqb, Option, Some, None}
+use Rattle.legal.specs.declared.next.Votes.{Votes}
 use Rattle.legal.specs.Legal.{number, legal, numbers, kept, total, votes_of}
 
 -- the legal numbers from n on
@@ -17,13 +16,13 @@ unfoldable pub first_from : ℕ → ℕ
 first_from n = first_or (legal_from n)
 
 -- the bytes of a number, nothing from 2^24 up
-unfoldable pub votes_at : ℕ → NextVotes
-votes_at n = cond (ltb n total) (votes_of n) Nothing
+unfoldable pub votes_at : ℕ → Option Votes
+votes_at n = cond (ltb n total) (votes_of n) None
 
 -- where a position stands
-unfoldable pub position_of : NextVotes → ℕ
-position_of Nothing = total
-position_of (Votes a b c) = number a b c
+unfoldable pub position_of : Option Votes → ℕ
+position_of None = total
+position_of (Some v) = number v.0 v.1 v.2
 
 -- how many numbers from n on begin with its bytes, the zeros at its end left out
 unfoldable pub step_of : ℕ → ℕ

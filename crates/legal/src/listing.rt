@@ -2,13 +2,12 @@
 ghost use Rattle.std.specs.Prelude.{IfOk, ◌≡◌, ◌+◌, ◌<◌, ◌≤◌, length};
 ghost use Rattle.codec.specs.Output.{written};
 ghost use Rattle.codec.specs.Put.{Put};
-ghost use Rattle.legal.specs.declared.next.NextVotes.TheVariants.{Votes};
-ghost use Rattle.legal.specs.Legal.{total};
+ghost use Rattle.legal.specs.Legal.{total, votes};
 ghost use Rattle.legal.specs.Search.{position_of, votes_at};
 ghost use Rattle.legal.specs.Listing.{line_of, line_most, text_of, fill_of, Pieces, GoesOn};
 
 use crate::next;
-use crate::next::NextVotes;
+use crate::next::Votes;
 use codec::refusal::Refusal;
 use codec::{decimal, output};
 
@@ -20,20 +19,20 @@ const NEWLINE: u8 = 10;
 // The position after the lines, and how many bytes of text stand at the start of the buffer.
 #[derive(Clone, Copy)]
 pub struct Filled {
-    pub next: NextVotes,
+    pub next: Option<Votes>,
     pub wrote: usize,
 }
 
 // Where the listing begins.
-pub fn begin() -> NextVotes
-    ensures value { result ≡ Votes 0 0 0 }
+pub fn begin() -> Option<Votes>
+    ensures value { result ≡ Some (votes 0 0 0) }
     ensures pieces { Pieces result }
 {
-    NextVotes::Votes(0, 0, 0)
+    Some(Votes(0, 0, 0))
 }
 
 // Fills a buffer with the lines of the legal numbers from a position on, as long as the longest line has room; or 21.
-pub fn fill(at: NextVotes, out: &mut [u8]) -> Result<Filled, Refusal>
+pub fn fill(at: Option<Votes>, out: &mut [u8]) -> Result<Filled, Refusal>
     ensures value { result ≡ fill_of at (length out.old) }
     ensures lines { out.new ≡ written (text_of at (length out.old)) out.old }
     ensures inside { IfOk result (λ filled. filled.wrote ≤ length out.old) }
@@ -65,12 +64,12 @@ fn stopped(n: u32, wrote: usize) -> Filled
 }
 
 // The number of a position; 2^24 at the end.
-fn position_of(at: NextVotes) -> u32
+fn position_of(at: Option<Votes>) -> u32
     ensures { result ≡ position_of at }
 {
     match at {
-        NextVotes::Votes(a, b, c) => next::number_of(a, b, c),
-        NextVotes::Nothing => next::TOTAL,
+        Some(v) => next::number_of(v.0, v.1, v.2),
+        None => next::TOTAL,
     }
 }
 

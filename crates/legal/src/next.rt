@@ -8,15 +8,12 @@ use voting::header;
 // Numbers of 24 bits are below.
 pub(crate) const TOTAL: u32 = 0x100_0000;
 
-// Three vote bytes, or nothing.
-#[derive(Clone, Copy)]
-pub enum NextVotes {
-    Votes(u8, u8, u8),
-    Nothing,
-}
+// The three vote bytes of a header.
+#[derive(Clone, Copy, Debug, PartialEq, Eq)]
+pub struct Votes(pub u8, pub u8, pub u8);
 
 // The first legal header above three bytes, if there is one.
-pub fn next_legal_votes(a: u8, b: u8, c: u8) -> NextVotes
+pub fn next_legal_votes(a: u8, b: u8, c: u8) -> Option<Votes>
     ensures value { result ≡ next_legal_votes a b c }
     ensures next { Next (number a b c) result }
     ensures lists { ListsAll }
@@ -30,14 +27,14 @@ pub(crate) fn number_of(a: u8, b: u8, c: u8) -> u32
     (a as u32) * 0x1_0000 + (b as u32) * 256 + c as u32
 }
 
-// A number below 2^24 as three bytes; nothing for any other.
-pub(crate) fn votes_of(n: u32) -> NextVotes
+// A number below 2^24 as three bytes; none for any other.
+pub(crate) fn votes_of(n: u32) -> Option<Votes>
     ensures { result ≡ votes_at n }
 {
     if TOTAL <= n {
-        return NextVotes::Nothing;
+        return None;
     }
-    NextVotes::Votes((n / 0x1_0000) as u8, (n / 256 % 256) as u8, (n % 256) as u8)
+    Some(Votes((n / 0x1_0000) as u8, (n / 256 % 256) as u8, (n % 256) as u8))
 }
 
 // The first legal number from one on; 2^24 where there is none.

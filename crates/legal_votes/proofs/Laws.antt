@@ -1,36 +1,36 @@
 -- The listing, handed over piece by piece.
 -- Assumes nothing.
 use Rattle.std.proofs.Common.{◌≡◌, sym, ap, ◌∙◌, Bool, true, false, true≢false, cond, ltb, le-ltb, List, [], ◌++◌, append_assoc, append-nil, ℕ, ◌-◌, ◌≤◌, ◌<◌, arith, length, take, subst}
-use Rattle.std.specs.Prelude.{Result, Ok, Err, IsOk}
+use Rattle.std.specs.Prelude.{Result, Ok, Err, IsOk, Option, Some, None}
 use Rattle.codec.specs.declared.refusal.Refusal.{Refusal}
 use Rattle.codec.specs.declared.refusal.Refusal.TheVariants.{OutputShort}
 use Rattle.codec.specs.Output.{written}
 use Rattle.ports.specs.declared.Output.{Output}
 use Rattle.ports.specs.Ports.{unwritten, wrote, sent, wrote_on, wrote_none}
 use Rattle.ports.proofs.Laws.{text-fits, text-sent}
-use Rattle.legal.specs.declared.next.NextVotes.{NextVotes}
-use Rattle.legal.specs.declared.next.NextVotes.TheVariants.{Votes, Nothing}
+use Rattle.legal.specs.declared.next.Votes.{Votes}
+use Rattle.legal.specs.Legal.{votes}
 use Rattle.legal.specs.declared.listing.Filled.{Filled}
 use Rattle.legal.specs.Listing.{lines_of, listing, line_most, rest_of, text_of, next_of, fill_of, GoesOn}
 use Rattle.legal.proofs.Laws.Listing.{one_piece, begins}
 use Rattle.legal_votes.specs.Prints.{Prints, Printing}
 
 -- nothing was handed over
-pub printing-starts : (T : List ℕ → Type 0) (to : ℕ) (at : NextVotes) (o : Output) → at ≡ Votes 0 0 0 → o ≡ unwritten to → T [] → Printing T to at o
+pub printing-starts : (T : List ℕ → Type 0) (to : ℕ) (at : Option Votes) (o : Output) → at ≡ Some (votes 0 0 0) → o ≡ unwritten to → T [] → Printing T to at o
 printing-starts T to at o p q t = record {
   text = [];
   is-output = q ∙ sym (wrote_none to);
-  goes_on = ap (λ (v : NextVotes). lines_of (rest_of v)) p ∙ begins;
+  goes_on = ap (λ (v : Option Votes). lines_of (rest_of v)) p ∙ begins;
   took = t;
 }
 
 -- a buffer with room for a line is filled
-pub fills : (at : NextVotes) (room : ℕ) {r : Result Filled Refusal} → r ≡ fill_of at room → line_most ≤ room → IsOk r
+pub fills : (at : Option Votes) (room : ℕ) {r : Result Filled Refusal} → r ≡ fill_of at room → line_most ≤ room → IsOk r
 unfolding fill_of
 fills at room e h = rw (e, le-ltb room line_most h)
 
 -- a piece that was filled in
-module _ (at : NextVotes) (out : List ℕ) (f : Filled) (is-filled : Ok f ≡ fill_of at (length out)) (out' : List ℕ)
+module _ (at : Option Votes) (out : List ℕ) (f : Filled) (is-filled : Ok f ≡ fill_of at (length out)) (out' : List ℕ)
     (lines : out' ≡ written (text_of at (length out)) out) where
   piece-is : f ≡ record { next = next_of at (length out); wrote = length (text_of at (length out)) }
   unfolding fill_of
@@ -58,7 +58,7 @@ module _ (at : NextVotes) (out : List ℕ) (f : Filled) (is-filled : Ok f ≡ fi
     behind : (g.text ++ text_of at (length out)) ++ lines_of (rest_of f.next) ≡ listing
     behind =
         append_assoc g.text (text_of at (length out)) (lines_of (rest_of f.next))
-        ∙ ap (λ (v : NextVotes). g.text ++ (text_of at (length out) ++ lines_of (rest_of v))) next-is
+        ∙ ap (λ (v : Option Votes). g.text ++ (text_of at (length out) ++ lines_of (rest_of v))) next-is
         ∙ ap (λ (l : List ℕ). g.text ++ l) (one_piece at (length out))
         ∙ g.goes_on
 
@@ -80,16 +80,16 @@ module _ (at : NextVotes) (out : List ℕ) (f : Filled) (is-filled : Ok f ≡ fi
       joined : T' (g.text ++ text_of at (length out))
       joined = join g.text (text_of at (length out)) g.took (subst A (text-fits (text_of at (length out)) out out' lines f.wrote wrote-is) (told e))
 
-      pub printed-all : f.next ≡ Nothing → T' listing
+      pub printed-all : f.next ≡ None → T' listing
       unfolding rest_of lines_of
-      printed-all n = subst T' (sym (append-nil (g.text ++ text_of at (length out))) ∙ ap (λ (v : NextVotes). (g.text ++ text_of at (length out)) ++ lines_of (rest_of v)) (sym n) ∙ behind) joined
+      printed-all n = subst T' (sym (append-nil (g.text ++ text_of at (length out))) ∙ ap (λ (v : Option Votes). (g.text ++ text_of at (length out)) ++ lines_of (rest_of v)) (sym n) ∙ behind) joined
 
-      pub prints-all : f.next ≡ Nothing → Prints to (record { output = o'; failed = false })
+      pub prints-all : f.next ≡ None → Prints to (record { output = o'; failed = false })
       unfolding rest_of lines_of
       prints-all n =
           let all : g.text ++ text_of at (length out) ≡ listing =
           sym (append-nil (g.text ++ text_of at (length out)))
-          ∙ ap (λ (v : NextVotes). (g.text ++ text_of at (length out)) ++ lines_of (rest_of v)) (sym n)
+          ∙ ap (λ (v : Option Votes). (g.text ++ text_of at (length out)) ++ lines_of (rest_of v)) (sym n)
           ∙ behind in
           record {
             text = g.text ++ text_of at (length out);
@@ -99,20 +99,20 @@ module _ (at : NextVotes) (out : List ℕ) (f : Filled) (is-filled : Ok f ≡ fi
             begun = sym all ∙ sym (append-nil (g.text ++ text_of at (length out)));
           }
 
-      pub printing-on : (at' : NextVotes) → f.next ≡ at' → Printing T' to at' o'
+      pub printing-on : (at' : Option Votes) → f.next ≡ at' → Printing T' to at' o'
       printing-on at' q = record {
         text = g.text ++ text_of at (length out);
         is-output = handed-whole;
-        goes_on = ap (λ (v : NextVotes). (g.text ++ text_of at (length out)) ++ lines_of (rest_of v)) (sym q) ∙ behind;
+        goes_on = ap (λ (v : Option Votes). (g.text ++ text_of at (length out)) ++ lines_of (rest_of v)) (sym q) ∙ behind;
         took = joined;
       }
 
   -- the next piece leaves fewer numbers
-  pub printing-less : line_most ≤ length out → GoesOn at (length out) → (a b c : ℕ) → f.next ≡ Votes a b c → length (rest_of (Votes a b c)) < length (rest_of at)
-  printing-less h g a b c q =
-      let e : next_of at (length out) ≡ Votes a b c = sym next-is ∙ q in
-      let l = g h (λ x. not-nothing a b c (sym e ∙ x)) in
-      omega (arith, l, ap (λ (v : NextVotes). length (rest_of v)) e)
+  pub printing-less : line_most ≤ length out → GoesOn at (length out) → (v : Votes) → f.next ≡ Some v → length (rest_of (Some v)) < length (rest_of at)
+  printing-less h g v q =
+      let e : next_of at (length out) ≡ Some v = sym next-is ∙ q in
+      let l = g h (λ x. not-nothing v (sym e ∙ x)) in
+      omega (arith, l, ap (λ (v : Option Votes). length (rest_of v)) e)
     where
-      not-nothing : (a b c : ℕ) → Votes a b c ≡ Nothing → ⊥
-      not-nothing a b c x = let z : ◌≡◌ {A = ℕ} 0 1 = cc in omega arith
+      not-nothing : (v : Votes) → Some v ≡ None → ⊥
+      not-nothing v x = let z : ◌≡◌ {A = ℕ} 0 1 = cc in omega arith

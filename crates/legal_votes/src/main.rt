@@ -8,7 +8,6 @@ ghost use Rattle.legal.specs.Listing.{line_most, listing};
 ghost use Rattle.legal_votes.specs.Prints.{Prints};
 
 use legal::listing;
-use legal::next::NextVotes;
 use ports::Sent;
 use std::env::Env;
 use std::io::{Eprint, Write};
@@ -46,14 +45,14 @@ fn print_all<W: Write>(rt: &impl Eprint, sink: &mut W, to: u32, out: &mut [u8]) 
         }
         let next = filled.next;
         match next {
-            NextVotes::Nothing => {
+            None => {
                 return Sent {
                     output: handed,
                     failed: false,
                 };
             }
-            NextVotes::Votes(a, b, c) => {
-                at = NextVotes::Votes(a, b, c);
+            Some(v) => {
+                at = Some(v);
             }
         }
     }

@@ -10,7 +10,7 @@ use lib.Dec.{ltb}
 use lib.ListN.{length, drop, set, length-append}
 use lib.Seq.{sets, sets-eq}
 use borrow.Author.Tests.{lt-ltb, le-ltb, ltb-true, ltb-false}
-use Rattle.std.specs.Prelude.{Result, Ok, Err, IfOk}
+use Rattle.std.specs.Prelude.{Result, Ok, Err, IfOk, Option, Some, None}
 use Rattle.codec.specs.declared.refusal.Refusal.{Refusal}
 use Rattle.codec.specs.declared.refusal.Refusal.TheVariants.{OutputShort}
 use Rattle.codec.specs.Decimal.{digits, newline}
@@ -18,10 +18,9 @@ use Rattle.codec.specs.Output.{written}
 use Rattle.codec.specs.Put.{Put}
 use Rattle.codec.proofs.Laws.Output.{sets-append}
 use Rattle.codec.proofs.Laws.Decimal.{digits-short}
-use Rattle.legal.specs.declared.next.NextVotes.{NextVotes}
-use Rattle.legal.specs.declared.next.NextVotes.TheVariants.{Votes, Nothing}
+use Rattle.legal.specs.declared.next.Votes.{Votes}
 use Rattle.legal.specs.declared.listing.Filled.{Filled}
-use Rattle.legal.specs.Legal.{number, total, first_of}
+use Rattle.legal.specs.Legal.{number, total, first_of, votes}
 use Rattle.legal.specs.Search.{legal_from, first_from, votes_at, position_of}
 use Rattle.legal.specs.Listing.{line_of, lines_of, listing, line_most, rest_of, fitting, left_over, text_of, next_of, fill_of, pieces, reached, Pieces, GoesOn}
 use Rattle.legal.proofs.Laws.Next.{ended, after_first, from_first, at_least, from_zero, Head, head}
@@ -164,10 +163,10 @@ module _ (before : List ℕ) (n₀ : ℕ) (cells : List ℕ) (n wrote : ℕ) (f 
 
 -- ---- a position, and what is left from it on
 
-pub rest-is : (at : NextVotes) → rest_of at ≡ legal_from (position_of at)
+pub rest-is : (at : Option Votes) → rest_of at ≡ legal_from (position_of at)
 unfolding rest_of position_of
-rest-is Nothing = sym (ended total (omega arith))
-rest-is (Votes a b c) = at_least (number a b c)
+rest-is None = sym (ended total (omega arith))
+rest-is (Some v) = at_least (number v.0 v.1 v.2)
 
 -- the numbers that are left are those from the first of them on
 left-rest : (ns : List ℕ) (room n : ℕ) → legal_from n ≡ ns → rest_of (first_of (left_over room ns)) ≡ left_over room ns
@@ -183,7 +182,7 @@ left-rest (q ∷ ns) room n e = go (ltb room line_most) (left-rest ns (room - le
     go false ih = ih
 
 -- a call: from a position on, in a buffer of a length
-module _ (at : NextVotes) (room : ℕ) where
+module _ (at : Option Votes) (room : ℕ) where
   module _ (h : line_most ≤ room) where
     next-wide : next_of at room ≡ first_of (left_over room (rest_of at))
     unfolding next_of
@@ -213,7 +212,7 @@ fits-left (n ∷ ns) room = go (ltb room line_most) (fits-left ns (room - length
         append_assoc (line_of n) (lines_of (fitting (room - length (line_of n)) ns)) (lines_of (left_over (room - length (line_of n)) ns))
         ∙ ap (λ (l : List ℕ). line_of n ++ l) ih
 
-pub one_piece : (at : NextVotes) (room : ℕ) → text_of at room ++ lines_of (rest_of (next_of at room)) ≡ lines_of (rest_of at)
+pub one_piece : (at : Option Votes) (room : ℕ) → text_of at room ++ lines_of (rest_of (next_of at room)) ≡ lines_of (rest_of at)
 unfolding text_of
 one_piece at room = go (ltb room line_most) refl
   where
@@ -222,7 +221,7 @@ one_piece at room = go (ltb room line_most) refl
     go false e =
         ap (λ (l : List ℕ). text_of at room ++ lines_of l) (rest-wide at room (ltb-false room line_most e)) ∙ fits-left (rest_of at) room
 
-all-pieces : (rooms : List ℕ) (at : NextVotes) → pieces at rooms ++ lines_of (rest_of (reached at rooms)) ≡ lines_of (rest_of at)
+all-pieces : (rooms : List ℕ) (at : Option Votes) → pieces at rooms ++ lines_of (rest_of (reached at rooms)) ≡ lines_of (rest_of at)
 unfolding pieces reached
 all-pieces [] at = refl
 all-pieces (room ∷ rooms) at =
@@ -231,18 +230,18 @@ all-pieces (room ∷ rooms) at =
     ∙ one_piece at room
 
 -- from the beginning
-pub begins : lines_of (rest_of (Votes 0 0 0)) ≡ listing
+pub begins : lines_of (rest_of (Some (votes 0 0 0))) ≡ listing
 unfolding listing position_of
-begins = ap lines_of (rest-is (Votes 0 0 0) ∙ from_zero)
+begins = ap lines_of (rest-is (Some (votes 0 0 0)) ∙ from_zero)
 
-pub pieces-all : Pieces (Votes 0 0 0)
+pub pieces-all : Pieces (Some (votes 0 0 0))
 unfolding rest_of lines_of
 pieces-all = record {
-  so_far = λ rooms. all-pieces rooms (Votes 0 0 0) ∙ begins;
+  so_far = λ rooms. all-pieces rooms (Some (votes 0 0 0)) ∙ begins;
   whole = λ rooms e.
-      sym (append-nil (pieces (Votes 0 0 0) rooms))
-      ∙ ap (λ (v : NextVotes). pieces (Votes 0 0 0) rooms ++ lines_of (rest_of v)) (sym e)
-      ∙ all-pieces rooms (Votes 0 0 0)
+      sym (append-nil (pieces (Some (votes 0 0 0)) rooms))
+      ∙ ap (λ (v : Option Votes). pieces (Some (votes 0 0 0)) rooms ++ lines_of (rest_of v)) (sym e)
+      ∙ all-pieces rooms (Some (votes 0 0 0))
       ∙ begins;
 }
 
@@ -256,19 +255,19 @@ left_less (n ∷ ns) room = go (ltb room line_most) (left_less ns (room - length
     go true ih = omega arith
     go false ih = omega (arith, ih)
 
-left-fewer : (ns : List ℕ) (room : ℕ) → line_most ≤ room → (first_of (left_over room ns) ≡ Nothing → ⊥) → length (left_over room ns) < length ns
+left-fewer : (ns : List ℕ) (room : ℕ) → line_most ≤ room → (first_of (left_over room ns) ≡ None → ⊥) → length (left_over room ns) < length ns
 unfolding first_of left_over
 left-fewer [] room h f = absurd (f refl)
 left-fewer (n ∷ ns) room h f = omega (arith, ap length (left_one room n ns h), left_less ns (room - length (line_of n)))
 
-pub goes_on : (at : NextVotes) (room : ℕ) → GoesOn at room
+pub goes_on : (at : Option Votes) (room : ℕ) → GoesOn at room
 goes_on at room h f =
     let l = left-fewer (rest_of at) room h (λ e. f (next-wide at room h ∙ e)) in
     omega (arith, l, ap length (rest-wide at room h))
 
 -- ---- what a call answers
 
-module _ (at : NextVotes) (before : List ℕ) where
+module _ (at : Option Votes) (before : List ℕ) where
   abbrev Answers : Result Filled Refusal → List ℕ → Type 0
   Answers r after =
       (r ≡ fill_of at (length before))

@@ -7,13 +7,12 @@ use Prim.Native.Nat.{ℕ, zero, suc, ◌+◌, ◌-◌, ◌/◌, ◌%◌, ◌≤�
 use native.Mathlib.Omega.{arith}
 use lib.Dec.{eqb, ltb, leb}
 use borrow.Author.Tests.{eqb-true, eq-eqb, ne_eqb, lt-ltb, le-ltb, le-leb, lt-leb, leb-true, leb-false}
-use Rattle.std.specs.Prelude.{Ok, Err, is_ok, is_err}
+use Rattle.std.specs.Prelude.{Ok, Err, is_ok, is_err, Option, Some, None}
 use Rattle.codec.specs.Check.{Check, passed}
 use Rattle.counting.specs.Count.{count}
 use Rattle.voting.specs.Header.{votes_in, fault_in, check_votes, check_header_votes}
-use Rattle.legal.specs.declared.next.NextVotes.{NextVotes}
-use Rattle.legal.specs.declared.next.NextVotes.TheVariants.{Votes, Nothing}
-use Rattle.legal.specs.Legal.{number, bytes_of, legal, numbers, kept, total, all_legal, first_of, next_legal_votes, Legal, Next, asked, ListsAll}
+use Rattle.legal.specs.declared.next.Votes.{Votes}
+use Rattle.legal.specs.Legal.{number, bytes_of, legal, numbers, kept, total, all_legal, first_of, next_legal_votes, Legal, Next, asked, ListsAll, votes}
 use Rattle.legal.specs.Search.{legal_from, first_or, first_from, votes_at, position_of, step_of}
 use Rattle.legal.proofs.Laws.Votes.{legal-front}
 use Rattle.legal.proofs.Laws.Lists.{First, passes, skips, first, none, all_pass, none_pass, none_left}
@@ -195,20 +194,20 @@ module _ (n : ℕ) where
     step-one g = rw (ne_eqb _ _ f, ne_eqb _ _ g)
 
 -- the bytes of a number
-pub votes-none : (n : ℕ) → total ≤ n → Nothing ≡ votes_at n
+pub votes-none : (n : ℕ) → total ≤ n → None ≡ votes_at n
 unfolding votes_at
 votes-none n h = rw (le-ltb n total h)
 
-pub votes-some : (n : ℕ) → n < total → Votes (n / 65536) (n / 256 % 256) (n % 256) ≡ votes_at n
+pub votes-some : (n : ℕ) → n < total → Some (votes (n / 65536) (n / 256 % 256) (n % 256)) ≡ votes_at n
 unfolding votes_at
 votes-some n h = rw (lt-ltb n total h)
 
 -- a position's number
-pub position-votes : (at : NextVotes) (a b c n : ℕ) → at ≡ Votes a b c → n ≡ number a b c → n ≡ position_of at
+pub position-votes : (at : Option Votes) (v : Votes) (n : ℕ) → at ≡ Some v → n ≡ number v.0 v.1 v.2 → n ≡ position_of at
 unfolding position_of
-position-votes at a b c n q e = rw (q, e)
+position-votes at v n q e = rw (q, e)
 
-pub position-none : (at : NextVotes) → at ≡ Nothing → total ≡ position_of at
+pub position-none : (at : Option Votes) → at ≡ None → total ≡ position_of at
 unfolding position_of
 position-none at q = rw q
 
@@ -295,7 +294,7 @@ zero-legal : legal 0 ≡ true
 unfolding legal bytes_of check_header_votes check_votes votes_in fault_in count
 zero-legal = refl
 
-zero-first : first_of (legal_from 0) ≡ Votes 0 0 0
+zero-first : first_of (legal_from 0) ≡ Some (votes 0 0 0)
 unfolding first_of
 zero-first = ap first_of (starts 0 (omega arith) zero-legal)
 

@@ -27,8 +27,8 @@ returns-then-sent g c =
       printed = λ e. absurd (true≢false e);
     }
 
-pub returns-in-Nothing : goal.returns-in-Nothing
-returns-in-Nothing g c =
+pub returns-in-None : goal.returns-in-None
+returns-in-None g c =
     let l = c.loop-filled in
     let f = c.fill in
     let made = c.unwrap-filled in
@@ -38,9 +38,9 @@ returns-in-Nothing g c =
     let k2 = g.W.Write.contents m.new.sink in
     record {
       prints = prints-all l.at l.out made.result (sym made.ensures ∙ f.ensures.value) f.new.out f.ensures.lines (Appends k k1) _ _ l.invariant.0 m.result.failed _ m.ensures.booked (Appends k1 k2) (Appends k k2) m.ensures.bytes
-          (λ x y. Appends-trans k k1 k2 x y) (search rules) c.in-Nothing.is;
+          (λ x y. Appends-trans k k1 k2 x y) (search rules) c.in-None.is;
       printed = λ e. printed-all l.at l.out made.result (sym made.ensures ∙ f.ensures.value) f.new.out f.ensures.lines (Appends k k1) _ _ l.invariant.0 m.result.failed _ m.ensures.booked (Appends k1 k2) (Appends k k2) m.ensures.bytes
-          (λ x y. Appends-trans k k1 k2 x y) (search rules) c.in-Nothing.is;
+          (λ x y. Appends-trans k k1 k2 x y) (search rules) c.in-None.is;
     }
 
 pub loop-filled-preserved : goal.loop-filled-preserved
@@ -53,10 +53,10 @@ loop-filled-preserved g c =
     let k1 = g.W.Write.contents l.sink in
     let k2 = g.W.Write.contents m.new.sink in (
       printing-on l.at l.out made.result (sym made.ensures ∙ f.ensures.value) f.new.out f.ensures.lines (Appends k k1) _ _ l.invariant.0 m.result.failed _ m.ensures.booked (Appends k1 k2) (Appends k k2) m.ensures.bytes
-          (λ x y. Appends-trans k k1 k2 x y) (search rules) _ c.in-Votes.is,
+          (λ x y. Appends-trans k k1 k2 x y) (search rules) _ c.in-Some.is,
       search rules,
       search rules,
     )
 
 pub loop-filled-smaller : goal.loop-filled-smaller
-loop-filled-smaller g c = printing-less c.loop-filled.at c.loop-filled.out c.unwrap-filled.result (sym c.unwrap-filled.ensures ∙ c.fill.ensures.value) _ c.fill.ensures.lines c.loop-filled.invariant.2 c.fill.ensures.goes_on _ _ _ c.in-Votes.is
+loop-filled-smaller g c = printing-less c.loop-filled.at c.loop-filled.out c.unwrap-filled.result (sym c.unwrap-filled.ensures ∙ c.fill.ensures.value) _ c.fill.ensures.lines c.loop-filled.invariant.2 c.fill.ensures.goes_on _ c.in-Some.is
