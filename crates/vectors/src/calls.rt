@@ -1,182 +1,122 @@
 // The calls that rows ask, by name: the functions that C, Rust and Python call. An answer is the refusal's number and 256 times its id, or 0;
-// NO_ANSWER where no call has the name and as many arguments. A function has a few of the calls: a long one is slow to check.
+// none where no call has the name and as many arguments.
 use crate::lists;
+use crate::row::Row;
 use codec::refusal::Refusal;
-use codec::signed;
 use exports::{body, boundary, replay, tables, update, votes, writing};
 use extension::boundary as on_values;
 use extension::boundary::Computed;
 use wire::{boundary as wire_boundary, numbers, values};
 
-// What no call answers.
-pub(crate) const NO_ANSWER: u16 = 0xffff;
-
 const OUTPUT_SHORT: u16 = 21;
 
-// Calls that answer a number, a flag, or a size or minus a number. A size must be that of the row's answer.
+// A call that answers a flag.
 fn flag(f: u8, out: &mut [u8]) -> u16 {
-    if out.len() == 0 {
-        return OUTPUT_SHORT;
+    match out.first_mut() {
+        Some(cell) => {
+            *cell = f;
+            0
+        }
+        None => OUTPUT_SHORT,
     }
-    out[0] = f;
-    0
 }
 
-fn sized(r: usize, n: usize) -> u16 {
+// A call that answers a size, or minus a number. The size must be that of the row's answer.
+fn sized(r: usize, n: usize) -> Option<u16> {
     if r == n {
-        return 0;
+        return Some(0);
     }
-    if r < 0xffff_ffff_ffff_ff00 {
-        return NO_ANSWER;
+    match r.wrapping_neg() {
+        number @ 1..=255 => Some(number as u16),
+        _ => None,
     }
-    (0xffff_ffff_ffff_ffff - r) as u16 + 1
 }
 
 fn byte_of(s: &[u8]) -> u8 {
     numbers::byte_at(s, 0)
 }
 
-pub(crate) fn with_one(name: &str, a: &[u8], n: usize, out: &mut [u8]) -> u16 {
-    if name == "check_header_votes" {
-        return votes::ergo_check_header_votes(a) as u16;
-    }
-    if name == "check_headers" {
-        return votes::ergo_check_headers(a) as u16;
-    }
-    if name == "check_body" {
-        return body::ergo_check_body(a) as u16;
-    }
-    if name == "parse_extension_bytes" {
-        return body::ergo_parse_extension_bytes(a, out) as u16;
-    }
-    if name == "parse_validation_settings_update" {
-        return update::ergo_parse_validation_settings_update(a, out) as u16;
-    }
-    of_bytes(name, a, n, out)
+fn id_of(s: &[u8]) -> i8 {
+    byte_of(s).cast_signed()
 }
 
-fn of_bytes(name: &str, a: &[u8], n: usize, out: &mut [u8]) -> u16 {
-    if name == "parse_parameters_from_kv" {
-        return sized(body::ergo_parse_parameters_from_kv(a, out), n);
+// A row of six arguments is asked with the first five.
+pub(crate) fn asked(row: &Row, out: &mut [u8]) -> Option<u16> {
+    let n = row.answer.unwrap_or(b"").len();
+    match row.arguments {
+        [Some(a), None, ..] => with_one(row.name, a, n, out),
+        [Some(a), Some(b), None, ..] => with_two(row.name, a, b, n, out),
+        [Some(a), Some(b), Some(c), None, ..] => with_three(row.name, a, b, c, n, out),
+        [Some(a), Some(b), Some(c), Some(d), None, ..] => with_four(row.name, a, b, c, d, out),
+        [Some(a), Some(b), Some(c), Some(d), Some(e), _] => {
+            with_five(row.name, a, b, c, d, e, n, out)
+        }
+        _ => None,
     }
-    if name == "extract_disabling_rules_from_kv" {
-        return sized(body::ergo_extract_disabling_rules_from_kv(a, out), n);
-    }
-    if name == "pack_parameters_to_kv" {
-        return sized(writing::ergo_pack_parameters_to_kv(a, out), n);
-    }
-    if name == "encode_disabled_rules" {
-        return sized(encode_disabled_rules(a, out), n);
-    }
-    if name == "table_parameters" {
-        return sized(tables::ergo_table_parameters(a, out), n);
-    }
-    of_number(name, a, out)
 }
 
-fn of_number(name: &str, a: &[u8], out: &mut [u8]) -> u16 {
-    if name == "default_parameters" {
-        return tables::ergo_default_parameters(byte_of(a), out) as u16;
-    }
-    if name == "voting_config" {
-        return tables::ergo_voting_config(byte_of(a), out) as u16;
-    }
-    if name == "parameter_min" {
-        return tables::ergo_parameter_min(signed::i8_of(byte_of(a)), out) as u16;
-    }
-    if name == "parameter_max" {
-        return tables::ergo_parameter_max(signed::i8_of(byte_of(a)), out) as u16;
-    }
-    if name == "parameter_step" {
-        return tables::ergo_parameter_step(signed::i8_of(byte_of(a)), out) as u16;
-    }
-    if name == "rule_may_not_be_disabled" {
-        return flag(update::ergo_rule_may_not_be_disabled(lists::i32_of(a)), out);
-    }
-    NO_ANSWER
+fn with_one(name: &str, a: &[u8], n: usize, out: &mut [u8]) -> Option<u16> {
+    Some(match name {
+        "check_header_votes" => votes::ergo_check_header_votes(a).into(),
+        "check_headers" => votes::ergo_check_headers(a).into(),
+        "check_body" => body::ergo_check_body(a).into(),
+        "parse_extension_bytes" => body::ergo_parse_extension_bytes(a, out).into(),
+        "parse_validation_settings_update" => {
+            update::ergo_parse_validation_settings_update(a, out).into()
+        }
+        "parse_parameters_from_kv" => sized(body::ergo_parse_parameters_from_kv(a, out), n)?,
+        "extract_disabling_rules_from_kv" => {
+            sized(body::ergo_extract_disabling_rules_from_kv(a, out), n)?
+        }
+        "pack_parameters_to_kv" => sized(writing::ergo_pack_parameters_to_kv(a, out), n)?,
+        "encode_disabled_rules" => sized(encode_disabled_rules(a, out), n)?,
+        "table_parameters" => sized(tables::ergo_table_parameters(a, out), n)?,
+        "default_parameters" => tables::ergo_default_parameters(byte_of(a), out).into(),
+        "voting_config" => tables::ergo_voting_config(byte_of(a), out).into(),
+        "parameter_min" => tables::ergo_parameter_min(id_of(a), out).into(),
+        "parameter_max" => tables::ergo_parameter_max(id_of(a), out).into(),
+        "parameter_step" => tables::ergo_parameter_step(id_of(a), out).into(),
+        "rule_may_not_be_disabled" => {
+            flag(update::ergo_rule_may_not_be_disabled(lists::i32_of(a)), out)
+        }
+        _ => return None,
+    })
 }
 
 fn encode_disabled_rules(a: &[u8], out: &mut [u8]) -> usize {
-    let lists = lists::lists_of(a, b"", b"");
-    let rules = lists.rules;
-    encode_rules(&rules, lists::count(a, 2), out)
+    let mut rules = [0; lists::ITEMS_MOST];
+    let rules = lists::list_of(a, 2, lists::u16_of, &mut rules);
+    writing::ergo_encode_disabled_rules(rules, out)
 }
 
-// The first items of a list.
-fn encode_rules(rules: &[u16], n: usize, out: &mut [u8]) -> usize {
-    if rules.len() < n {
-        return 0;
-    }
-    writing::ergo_encode_disabled_rules(&rules[0..n], out)
+fn with_two(name: &str, a: &[u8], b: &[u8], n: usize, out: &mut [u8]) -> Option<u16> {
+    Some(match name {
+        "check_parameters_v6" => boundary::ergo_check_parameters_v6(a, b),
+        "check_block_version" => boundary::ergo_check_block_version(a, byte_of(b)).into(),
+        "soft_fork_approved" => flag(tables::ergo_soft_fork_approved(a, lists::i32_of(b)), out),
+        "change_approved" => flag(tables::ergo_change_approved(a, lists::u32_of(b)), out),
+        "pack_extension_bytes" => sized(writing::ergo_pack_extension_bytes(a, b, out), n)?,
+        "field_at" => body::ergo_field_at(a, lists::u32_of(b) as usize, out).into(),
+        "rule_at" => update::ergo_rule_at(a, lists::u32_of(b) as usize, out).into(),
+        "status_at" => update::ergo_status_at(a, lists::u32_of(b) as usize, out).into(),
+        "open" => replay::ergo_open(lists::u32_of(a), b, out).into(),
+        "replay" => replay::ergo_replay(out, b),
+        _ => return None,
+    })
 }
 
-pub(crate) fn with_two(name: &str, a: &[u8], b: &[u8], n: usize, out: &mut [u8]) -> u16 {
-    if name == "check_parameters_v6" {
-        return boundary::ergo_check_parameters_v6(a, b);
+fn with_three(name: &str, a: &[u8], b: &[u8], c: &[u8], n: usize, out: &mut [u8]) -> Option<u16> {
+    match name {
+        "compute_boundary_parameters" => Some(compute_boundary_parameters(a, b, c, out)),
+        "pack_fields" => sized(pack_fields(a, b, c, out), n),
+        _ => None,
     }
-    if name == "check_block_version" {
-        return boundary::ergo_check_block_version(a, byte_of(b)) as u16;
-    }
-    if name == "soft_fork_approved" {
-        return flag(tables::ergo_soft_fork_approved(a, lists::i32_of(b)), out);
-    }
-    if name == "change_approved" {
-        return flag(tables::ergo_change_approved(a, lists::u32_of(b)), out);
-    }
-    if name == "pack_extension_bytes" {
-        return sized(writing::ergo_pack_extension_bytes(a, b, out), n);
-    }
-    of_two(name, a, b, out)
-}
-
-fn of_two(name: &str, a: &[u8], b: &[u8], out: &mut [u8]) -> u16 {
-    if name == "field_at" {
-        return body::ergo_field_at(a, lists::u32_of(b) as usize, out) as u16;
-    }
-    if name == "rule_at" {
-        return update::ergo_rule_at(a, lists::u32_of(b) as usize, out) as u16;
-    }
-    if name == "status_at" {
-        return update::ergo_status_at(a, lists::u32_of(b) as usize, out) as u16;
-    }
-    if name == "open" {
-        return replay::ergo_open(lists::u32_of(a), b, out) as u16;
-    }
-    if name == "replay" {
-        return replay::ergo_replay(out, b);
-    }
-    NO_ANSWER
-}
-
-pub(crate) fn with_three(
-    name: &str,
-    a: &[u8],
-    b: &[u8],
-    c: &[u8],
-    n: usize,
-    out: &mut [u8],
-) -> u16 {
-    if name == "compute_boundary_parameters" {
-        return compute_boundary_parameters(a, b, c, out);
-    }
-    if name == "pack_fields" {
-        return sized(pack_fields(a, b, c, out), n);
-    }
-    NO_ANSWER
 }
 
 fn pack_fields(keys: &[u8], b: &[u8], values: &[u8], out: &mut [u8]) -> usize {
-    let lists = lists::lists_of(b"", b"", b);
-    let sizes = lists.sizes;
-    pack_sized(keys, &sizes, lists::count(b, 4), values, out)
-}
-
-// The first items of the list of sizes.
-fn pack_sized(keys: &[u8], sizes: &[u32], n: usize, values: &[u8], out: &mut [u8]) -> usize {
-    if sizes.len() < n {
-        return 0;
-    }
-    writing::ergo_pack_fields(keys, &sizes[0..n], values, out)
+    let mut sizes = [0; lists::ITEMS_MOST];
+    let sizes = lists::list_of(b, 4, lists::u32_of, &mut sizes);
+    writing::ergo_pack_fields(keys, sizes, values, out)
 }
 
 // The boundary on values stands for `ergo_compute_boundary_parameters`: a list of structs can't be made here without a walk by hand. Its
@@ -208,81 +148,43 @@ fn computed(x: Result<Computed, Refusal>, out: &mut [u8]) -> u16 {
     }
 }
 
-pub(crate) fn with_four(name: &str, a: &[u8], b: &[u8], c: &[u8], d: &[u8], out: &mut [u8]) -> u16 {
-    if name == "check_fork_vote" {
-        return votes::ergo_check_fork_vote(a, lists::u32_of(b), c, d) as u16;
-    }
-    if name == "tally_votes_seeded" {
-        return votes::ergo_tally_votes_seeded(
+fn with_four(name: &str, a: &[u8], b: &[u8], c: &[u8], d: &[u8], out: &mut [u8]) -> Option<u16> {
+    Some(match name {
+        "check_fork_vote" => votes::ergo_check_fork_vote(a, lists::u32_of(b), c, d).into(),
+        "tally_votes_seeded" => votes::ergo_tally_votes_seeded(
             lists::u32_of(a),
             b,
             lists::u32_of(c),
             lists::u32_of(d),
             out,
-        ) as u16;
-    }
-    NO_ANSWER
+        ).into(),
+        _ => return None,
+    })
 }
 
-pub(crate) fn with_five(
+fn with_five(
     name: &str,
     a: &[u8],
     b: &[u8],
-    c: &[u8],
+    codes: &[u8],
     d: &[u8],
-    e: &[u8],
+    raw: &[u8],
     n: usize,
     out: &mut [u8],
-) -> u16 {
+) -> Option<u16> {
     if name != "encode_validation_settings_update" {
-        return NO_ANSWER;
+        return None;
     }
-    let lists = lists::lists_of(a, b, d);
-    let rules = lists.rules;
-    let ids = lists.ids;
-    let sizes = lists.sizes;
-    let items = lists::count(a, 2);
-    let written = encode_update(
-        &rules,
-        items,
-        &ids,
-        lists::count(b, 2),
-        c,
-        &sizes,
-        lists::count(d, 4),
-        e,
+    let mut rules = [0; lists::ITEMS_MOST];
+    let mut ids = [0; lists::ITEMS_MOST];
+    let mut sizes = [0; lists::ITEMS_MOST];
+    let written = writing::ergo_encode_validation_settings_update(
+        lists::list_of(a, 2, lists::u16_of, &mut rules),
+        lists::list_of(b, 2, lists::i16_of, &mut ids),
+        codes,
+        lists::list_of(d, 4, lists::u32_of, &mut sizes),
+        raw,
         out,
     );
     sized(written, n)
-}
-
-// The first items of each list.
-fn encode_update(
-    rules: &[u16],
-    n: usize,
-    ids: &[i16],
-    k: usize,
-    codes: &[u8],
-    sizes: &[u32],
-    m: usize,
-    raw: &[u8],
-    out: &mut [u8],
-) -> usize {
-    if rules.len() < n {
-        return 0;
-    }
-    if ids.len() < k {
-        return 0;
-    }
-    if sizes.len() < m {
-        return 0;
-    }
-    writing::ergo_encode_validation_settings_update(
-        &rules[0..n],
-        &ids[0..k],
-        codes,
-        &sizes[0..m],
-        raw,
-        out,
-    )
 }

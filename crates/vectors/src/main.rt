@@ -16,33 +16,35 @@ use std::str;
 // A file has at most so many bytes.
 const FILE_MOST: usize = 0x20_0000;
 
+// So many are read of it, one more: that a file is too long shows.
+const LINES_MOST: usize = 0x20_0001;
+
+// The bytes of a row's groups, one after another, are at most so many.
+const BYTES_MOST: usize = 0x8_0000;
+
 // A file's name has at most so many bytes.
 const NAME_MOST: usize = 4096;
 
 // The lines so far, the rows among them, and how many of those differ.
-#[derive(Clone, Copy)]
+#[derive(Clone, Copy, Default)]
 struct Counts {
     pub lines: u64,
     pub rows: u64,
     pub differ: u64,
 }
 
-fn one_more(n: u64) -> u64 {
-    if n < 1_000_000_000 { n + 1 } else { n }
-}
-
 impl Counts {
     fn line(mut self) -> Counts {
-        self.lines = one_more(self.lines);
+        self.lines = self.lines.saturating_add(1);
         self
     }
 
     fn row(mut self, rt: &impl Print, agrees: bool) -> Counts {
-        self.rows = one_more(self.rows);
+        self.rows = self.rows.saturating_add(1);
         if agrees {
             return self;
         }
-        self.differ = one_more(self.differ);
+        self.differ = self.differ.saturating_add(1);
         let line = self.lines;
         let _ = rt.print(format_args!("line {line} differs\n"));
         self
@@ -50,31 +52,29 @@ impl Counts {
 }
 
 // A line that is empty or begins with # is no row.
-fn run_line(rt: &impl Print, line: &[u8], bytes: &mut [u8; 0x8_0000], counts: Counts) -> Counts {
+fn run_line(rt: &impl Print, line: &[u8], cells: &mut [u8; BYTES_MOST], counts: Counts) -> Counts {
     let c = counts.line();
-    if line.len() == 0 {
-        return c;
+    match line {
+        [] | [b'#', ..] => c,
+        _ => c.row(rt, agrees(line, cells)),
     }
-    if line[0] == b'#' {
-        return c;
-    }
-    let r = row::read(line, bytes);
-    // A name that is no text is no call's.
-    let name = str::from_utf8(text::part(line, 0, r.name)).unwrap_or("");
-    c.row(rt, run::agrees(name, r, bytes))
 }
 
-fn run_lines(rt: &impl Print, lines: &[u8], bytes: &mut [u8; 0x8_0000]) -> Counts {
-    let mut counts = Counts {
-        lines: 0,
-        rows: 0,
-        differ: 0,
-    };
-    let mut at: usize = 0;
-    while at < lines.len() {
-        let end = text::find(lines, at, b'\n', true);
-        counts = run_line(rt, text::part(lines, at, end), bytes, counts);
-        at = end + 1;
+// A line that is no text is out of form.
+fn agrees(line: &[u8], cells: &mut [u8; BYTES_MOST]) -> bool {
+    match str::from_utf8(line) {
+        Ok(text) => match row::read(text, cells) {
+            Some(row) => run::agrees(&row),
+            None => false,
+        },
+        Err(_) => false,
+    }
+}
+
+fn run_lines(rt: &impl Print, lines: &[u8], cells: &mut [u8; BYTES_MOST]) -> Counts {
+    let mut counts = Counts::default();
+    for line in lines.split(|b| *b == b'\n') {
+        counts = run_line(rt, line, cells, counts);
     }
     counts
 }
@@ -85,13 +85,13 @@ fn print_counts(rt: &impl Print, counts: Counts) {
     let _ = rt.print(format_args!("{rows} run, {differ} differ\n"));
 }
 
-fn run_text(rt: &impl Print, lines: &[u8; 0x20_0001], n: usize) {
-    if FILE_MOST < n {
+fn run_text(rt: &impl Print, lines: &[u8]) {
+    if FILE_MOST < lines.len() {
         let _ = rt.print("too long\n");
         return;
     }
-    let mut bytes = [0u8; 0x8_0000];
-    let counts = run_lines(rt, text::part(lines, 0, n), &mut bytes);
+    let mut cells = [0u8; BYTES_MOST];
+    let counts = run_lines(rt, lines, &mut cells);
     print_counts(rt, counts);
 }
 
@@ -124,21 +124,22 @@ fn tell_unopened(rt: &HostRuntime, path: &str, error: Error) {
     let _ = rt.print("not opened\n");
 }
 
-fn read_file(file: &mut File, lines: &mut [u8; 0x20_0001]) -> usize {
-    ports::read_full(file, lines)
+fn run_open(rt: &HostRuntime, file: &mut File) {
+    let mut lines = [0u8; LINES_MOST];
+    run_read(rt, file, &mut lines);
 }
 
-fn run_open(rt: &HostRuntime, file: &mut File) {
-    let mut lines = [0u8; 0x20_0001];
-    let n = read_file(file, &mut lines);
-    run_text(rt, &lines, n);
+// A function of its own: the proof opens an array that is made where it is cut.
+fn run_read(rt: &HostRuntime, file: &mut File, lines: &mut [u8; LINES_MOST]) {
+    let n = ports::read_full(file, lines);
+    run_text(rt, &lines[..n]);
 }
 
 fn main(rt: HostRuntime) {
     for place in 1..usize::MAX {
         let mut name = [0u8; NAME_MOST];
         match ports::argument(&rt, place, &mut name) {
-            Some(n) => run_file(&rt, text::part(&name, 0, n)),
+            Some(n) => run_file(&rt, &name[..n]),
             None => break,
         }
     }

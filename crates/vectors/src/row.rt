@@ -1,146 +1,85 @@
 // A row: a call, its arguments, and its answer. docs/VECTORS.md has the form.
 use crate::text;
 
-// A call has at most so many arguments.
-const ARGUMENTS_MOST: usize = 5;
+// A row has at most so many groups of bytes: its arguments, and its answer's.
+const GROUPS_MOST: usize = 6;
 
-// What stands next in the line.
-const ARGUMENT: u8 = 0;
+const ENTRY_DIFFERS: u8 = 15;
 
-const NUMBER: u8 = 1;
-
-const ANSWER: u8 = 2;
-
-const NOTHING: u8 = 3;
+const OUTPUT_SHORT: u8 = 21;
 
 #[derive(Clone, Copy)]
-pub(crate) struct Row {
-    // where its name ends in the line, and whether it is `replay`
-    pub name: usize,
-    pub replays: bool,
-    pub next: u8,
-    // how many arguments there are, and where each begins in the row's bytes; the answer's bytes stand behind the last
-    pub arguments: usize,
-    pub begins: [usize; 7],
-    pub number: u8,
-    pub sound: bool,
+pub(crate) struct Row<'a> {
+    pub name: &'a str,
+    pub arguments: [Option<&'a [u8]>; GROUPS_MOST],
+    // what the call wrote, or its flag; where it is refused, the number, and 256 times the id of 15
+    pub answer: Result<&'a [u8], u16>,
 }
 
-// The row of a line. Its bytes are put into a lent array.
-pub(crate) fn read(line: &[u8], bytes: &mut [u8; 0x8_0000]) -> Row {
-    let end = text::find(line, 0, b' ', true);
-    let mut row = named(end, matches!(text::part(line, 0, end), b"replay"));
-    let mut from = end;
-    while from < line.len() {
-        let to = text::find(line, from + 1, b' ', true);
-        row = row.after(text::part(line, from + 1, to), bytes);
-        from = to;
+// The row of a line. Its bytes are put into lent cells.
+pub(crate) fn read<'a>(line: &'a str, cells: &'a mut [u8]) -> Option<Row<'a>> {
+    let (call, answer) = line.split_once(" = ")?;
+    let mut groups = call.split(' ');
+    let name = groups.next()?;
+    let mut arguments = [None; GROUPS_MOST];
+    let mut count = 0;
+    let mut free = cells;
+    for group in groups {
+        if GROUPS_MOST <= count {
+            return None;
+        }
+        let (argument, left) = text::put_group(group, free)?;
+        arguments[count] = Some(argument);
+        count += 1;
+        free = left;
     }
-    row.ended()
-}
-
-fn named(name: usize, replays: bool) -> Row {
-    Row {
+    let (number, bytes) = match answer.split_once(' ') {
+        Some(_) if GROUPS_MOST <= count => return None,
+        Some((number, group)) => (number, text::put_group(group, free)?.0),
+        None => (answer, b"".as_slice()),
+    };
+    let answer = answer_of(number_of(number)?, bytes)?;
+    Some(Row {
         name,
-        replays,
-        next: ARGUMENT,
-        arguments: 0,
-        begins: [0; 7],
-        number: 0,
-        sound: true,
+        arguments,
+        answer,
+    })
+}
+
+// Two digits.
+fn number_of(s: &str) -> Option<u8> {
+    match s.as_bytes() {
+        [tens @ b'0'..=b'9', ones @ b'0'..=b'9'] => Some((*tens - b'0') * 10 + (*ones - b'0')),
+        _ => None,
     }
 }
 
-impl Row {
-    fn unsound(mut self) -> Row {
-        self.sound = false;
-        self
+// A refusal has no bytes beside its number, but for the id of 15. 21 has no rows: how many cells there are is not said in a row.
+fn answer_of(number: u8, bytes: &[u8]) -> Option<Result<&[u8], u16>> {
+    match (number, bytes) {
+        (0, _) => Some(Ok(bytes)),
+        (ENTRY_DIFFERS, [id]) => Some(Err(number as u16 + 256 * (*id as u16))),
+        (ENTRY_DIFFERS | OUTPUT_SHORT, _) => None,
+        (_, []) => Some(Err(number as u16)),
+        _ => None,
+    }
+}
+
+impl<'a> Row<'a> {
+    pub(crate) fn replays(&self) -> bool {
+        self.name == "replay"
     }
 
-    // The row after one more group of its line.
-    fn after(self, group: &[u8], bytes: &mut [u8; 0x8_0000]) -> Row {
-        if matches!(group, b"=") {
-            return self.marked();
+    // A replay's state, its first argument; of other calls none.
+    pub(crate) fn state(&self) -> &'a [u8] {
+        match self.arguments {
+            [Some(state), ..] if self.replays() => state,
+            _ => b"",
         }
-        if self.next == NUMBER {
-            return self.numbered(group);
-        }
-        self.filled(group, bytes)
     }
 
-    fn marked(mut self) -> Row {
-        if self.next != ARGUMENT {
-            return self.unsound();
-        }
-        self.next = NUMBER;
-        self
-    }
-
-    // Two digits.
-    fn numbered(mut self, group: &[u8]) -> Row {
-        if group.len() != 2 {
-            return self.unsound();
-        }
-        let n = text::decimal(group);
-        if 255 < n {
-            return self.unsound();
-        }
-        self.number = n as u8;
-        self.next = ANSWER;
-        self
-    }
-
-    // An argument, or the answer's bytes.
-    fn filled(mut self, group: &[u8], bytes: &mut [u8; 0x8_0000]) -> Row {
-        let k = self.arguments;
-        let answer = self.next == ANSWER;
-        if self.next == NOTHING {
-            return self.unsound();
-        }
-        if ARGUMENTS_MOST < k {
-            return self.unsound();
-        }
-        let mut begins = self.begins;
-        let end = text::put_group(group, bytes, begins[k]);
-        if end == text::OUT_OF_FORM {
-            return self.unsound();
-        }
-        begins[k + 1] = end;
-        self.begins = begins;
-        if answer {
-            self.next = NOTHING;
-            return self;
-        }
-        self.arguments = k + 1;
-        self
-    }
-
-    // The row at its line's end: it has a number.
-    fn ended(self) -> Row {
-        if self.next < ANSWER {
-            return self.unsound();
-        }
-        self
-    }
-
-    // An argument.
-    pub(crate) fn argument(self, k: usize, bytes: &[u8]) -> &[u8] {
-        if ARGUMENTS_MOST < k {
-            return &bytes[..0];
-        }
-        let begins = self.begins;
-        text::part(bytes, begins[k], begins[k + 1])
-    }
-
-    // The answer's bytes.
-    pub(crate) fn answer(self, bytes: &[u8]) -> &[u8] {
-        if self.next != NOTHING {
-            return &bytes[..0];
-        }
-        self.argument(self.arguments, bytes)
-    }
-
-    pub(crate) fn is_refused(self) -> bool {
-        self.number != 0
+    // What the row says that the call leaves in the cells' start: its answer; where it is refused nothing, or the state of a replay.
+    pub(crate) fn left(&self) -> &'a [u8] {
+        self.answer.unwrap_or(self.state())
     }
 }
