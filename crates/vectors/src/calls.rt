@@ -40,7 +40,8 @@ fn id_of(s: &[u8]) -> i8 {
     byte_of(s).cast_signed()
 }
 
-// A row of six arguments is asked with the first five.
+// A row of six arguments is asked with the first five. A match for each number of arguments: the check of one match on the name and the
+// arguments was not done after six minutes.
 pub(crate) fn asked(row: &Row, out: &mut [u8]) -> Option<u16> {
     let n = row.answer.unwrap_or(b"").len();
     match row.arguments {

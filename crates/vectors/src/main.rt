@@ -16,8 +16,8 @@ use std::str;
 // A file has at most so many bytes.
 const FILE_MOST: usize = 0x20_0000;
 
-// So many are read of it, one more: that a file is too long shows.
-const LINES_MOST: usize = 0x20_0001;
+// So many are read of it, so that one that is too long shows.
+const LINES_MOST: usize = FILE_MOST + 1;
 
 // The bytes of a row's groups, one after another, are at most so many.
 const BYTES_MOST: usize = 0x8_0000;
@@ -129,7 +129,7 @@ fn run_open(rt: &HostRuntime, file: &mut File) {
     run_read(rt, file, &mut lines);
 }
 
-// A function of its own: the proof opens an array that is made where it is cut.
+// Apart from where the array is made: a proof of the cut there opens all of it.
 fn run_read(rt: &HostRuntime, file: &mut File, lines: &mut [u8; LINES_MOST]) {
     let n = ports::read_full(file, lines);
     run_text(rt, &lines[..n]);
