@@ -132,7 +132,8 @@ fn on_parts(s: Replay, height: u32, body: &[u8], votes: &[u8]) -> Result<Replay,
     ensures { result ≡ on_parts s height body.now votes.now }
 {
     check_early(s, height, votes)?;
-    let w = walk::walk_body(body)?;
+    let w = walk::walk_body(body);
+    w.fields?;
     let b = boundary::boundary_with_update(
         s.settings,
         height,

@@ -1,14 +1,15 @@
 -- What a replay asks of a body, and the match of a computed table with what was found. docs/RULES.md, "Extension body and match".
 -- Assumes nothing.
-use Rattle.std.specs.Prelude.{Result, Ok, Err, ⊤, MatchResult, ℕ, ◌≡◌, cond, List, [], ◌∷◌}
+use Rattle.std.specs.Prelude.{Result, Ok, Err, ⊤, ℕ, ◌≡◌, cond, List, [], ◌∷◌}
 use Rattle.voting.specs.Table.{lookup, fork_entries}
 use Rattle.voting.specs.declared.table.Table.{Table}
 use Rattle.extension.specs.declared.parameters.ParameterMap.{ParameterMap}
 use Rattle.codec.specs.declared.refusal.Refusal.{Refusal}
 use Rattle.extension.specs.declared.parameters.Mismatch.{Mismatch}
+use Rattle.std.specs.Result.{result_unwrap_or}
 use Rattle.extension.specs.Section.{PartIs}
 use Rattle.extension.specs.Body.{proposed_update, check_body}
-use Rattle.extension.specs.Parameters.{entry_of, parameters_of, agrees, table_ids, matched}
+use Rattle.extension.specs.Parameters.{entry_of, parameters_of, agrees, table_ids, matched, no_parameters}
 use Rattle.walk.specs.declared.Walked.{Walked}
 
 -- the entries of a table, read off parameters
@@ -19,15 +20,11 @@ table_in m =
       fork = fork_entries (entry_of m 121) (entry_of m 122) (entry_of m 123);
     }
 
--- the fields of a body that is checked, its proposed update, and its parameters
+-- the check of a body, its proposed update, and its parameters, on every body; a refused one has no parameters
 pub record WalkedIs (body : List ℕ) (w : Walked) : Type 0 where
-  pub fields : check_body body ≡ Ok w.fields
+  pub fields : w.fields ≡ check_body body
   pub update : PartIs body w.start w.end (proposed_update body)
-  pub found : (m : ParameterMap) → parameters_of body ≡ Ok m → w.found ≡ table_in m
-
--- so on every body; or the body's refusal
-abbrev pub Walks : List ℕ → Result Walked Refusal → Type 0
-Walks body r = MatchResult r (WalkedIs body) (λ e. check_body body ≡ Err e)
+  pub found : w.found ≡ table_in (result_unwrap_or (parameters_of body) no_parameters)
 
 -- the first id, in rising order, whose entry in the computed table is missing or different in the other; 0 where there is none
 unfoldable pub first_unlike : Table → Table → List ℕ → ℕ

@@ -5,8 +5,8 @@
 ghost use Rattle.std.specs.Prelude.{◌≡◌, ◌≤◌, length};
 ghost use Rattle.extension.specs.Section.{listing, closed};
 ghost use Rattle.extension.specs.Body.{read_field, extension_of};
-ghost use Rattle.extension.specs.Parameters.{matched};
-ghost use Rattle.walk.specs.Walk.{Walks, match_found};
+ghost use Rattle.extension.specs.Parameters.{no_parameters, matched};
+ghost use Rattle.walk.specs.Walk.{table_in, WalkedIs, match_found};
 ghost use Rattle.walk.specs.Fields.{place_of, slot_in, table_from, fork_unlike};
 
 use codec::refusal::Refusal;
@@ -16,35 +16,37 @@ use extension::section::Section;
 use extension::{body, parameters};
 use voting::table::{Fork, Table, Value};
 
-// The section of the fields; where the bytes of the proposed update begin and end; and what the body's parameters have of a table's twelve
-// entries.
+// The section of the fields, or the body's refusal; where the bytes of the proposed update begin and end; and what the body's parameters have of
+// a table's twelve entries. A refused body has no parameters; where only a size is wrong, the update is the one of the fields.
 #[derive(Clone, Copy)]
 pub struct Walked {
-    pub fields: Section,
+    pub fields: Result<Section, Refusal>,
     pub start: usize,
     pub end: usize,
     pub found: Table,
 }
 
-// One pass over the fields of a body; or 22, 1 to 6.
-pub fn walk_body(body: &[u8]) -> Result<Walked, Refusal>
-    ensures { Walks body.now result }
+// One pass over the fields of a body.
+pub fn walk_body(body: &[u8]) -> Walked
+    ensures { WalkedIs body.now result }
 {
     if body::INPUT_MOST < body.len() {
-        return Err(Refusal::InputLong);
+        return refused(Refusal::InputLong);
     }
     if body.len() < body::HEADER_ID_SIZE {
-        return Err(Refusal::BodyShort);
+        return refused(Refusal::BodyShort);
     }
-    let m = vlq::read_u32(body, body::HEADER_ID_SIZE).ok_or(Refusal::CountUnreadable)?;
-    walk_fields(body, m.value as u32, m.next)
+    match vlq::read_u32(body, body::HEADER_ID_SIZE) {
+        Some(m) => walk_fields(body, m.value as u32, m.next),
+        None => refused(Refusal::CountUnreadable),
+    }
 }
 
 // The fields of a body, that is so many from a position on. A slot for each of the twelve entries, and one for every other field, so that
 // each field is stored without a test; the first update field is kept; a wrong size is told after all fields are read.
-fn walk_fields(body: &[u8], count: u32, begin: usize) -> Result<Walked, Refusal>
+fn walk_fields(body: &[u8], count: u32, begin: usize) -> Walked
     requires { (length body.now ≤ 65536) × (closed count begin (listing (read_field body.now) count begin) ≡ extension_of body.now) }
-    ensures { Walks body.now result }
+    ensures { WalkedIs body.now result }
 {
     let mut found = [None; 13];
     let mut wrong = false;
@@ -53,29 +55,63 @@ fn walk_fields(body: &[u8], count: u32, begin: usize) -> Result<Walked, Refusal>
     let mut end: usize = 0;
     let mut at = begin;
     for _ in 0..count {
-        let f = body::field_at(body, at)?;
-        at = f.end;
-        wrong = wrong | body::wrong_size(f.key0, f.key1, f.end - f.start);
-        found[place_of(f.key0, f.key1)] = slot_in(&body[f.start..f.end]);
-        if !seen & body::update_key(f.key0, f.key1) {
-            seen = true;
-            start = f.start;
-            end = f.end;
+        match body::field_at(body, at) {
+            Ok(f) => {
+                at = f.end;
+                wrong = wrong | body::wrong_size(f.key0, f.key1, f.end - f.start);
+                found[place_of(f.key0, f.key1)] = slot_in(&body[f.start..f.end]);
+                if !seen & body::update_key(f.key0, f.key1) {
+                    seen = true;
+                    start = f.start;
+                    end = f.end;
+                }
+            }
+            Err(e) => return refused(e),
         }
     }
     if wrong {
-        return Err(Refusal::ParameterSize);
+        return Walked {
+            fields: Err(Refusal::ParameterSize),
+            start,
+            end,
+            found: no_entries(),
+        };
     }
-    Ok(Walked {
-        fields: Section {
+    Walked {
+        fields: Ok(Section {
             count,
             begin,
             end: at,
-        },
+        }),
         start,
         end,
         found: table_of(found),
-    })
+    }
+}
+
+// A refused body: no fields.
+fn refused(e: Refusal) -> Walked
+    ensures { result ≡ record { fields = Err e; start = 0; end = 0; found = table_in no_parameters } }
+{
+    Walked {
+        fields: Err(e),
+        start: 0,
+        end: 0,
+        found: no_entries(),
+    }
+}
+
+fn no_entries() -> Table
+    ensures { result ≡ table_in no_parameters }
+{
+    Table {
+        ordinary: [None; 9],
+        fork: Fork {
+            votes: None,
+            start: None,
+            version: None,
+        },
+    }
 }
 
 // The place of a field's entry among the twelve; 12 for any other field.
