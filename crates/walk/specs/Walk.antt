@@ -1,10 +1,9 @@
 -- What a replay asks of a body, and the match of a computed table with what was found. docs/RULES.md, "Extension body and match".
 -- Assumes nothing.
-use Rattle.std.specs.Prelude.{Result, Ok, Err, ⊤, ℕ, ◌≡◌, cond, List, [], ◌∷◌}
+use Rattle.std.specs.Prelude.{Result, ⊤, ℕ, ◌≡◌, cond, List, [], ◌∷◌}
 use Rattle.voting.specs.Table.{lookup, fork_entries}
 use Rattle.voting.specs.declared.table.Table.{Table}
 use Rattle.extension.specs.declared.parameters.ParameterMap.{ParameterMap}
-use Rattle.codec.specs.declared.refusal.Refusal.{Refusal}
 use Rattle.extension.specs.declared.parameters.Mismatch.{Mismatch}
 use Rattle.std.specs.Result.{result_unwrap_or}
 use Rattle.extension.specs.Section.{PartIs}

@@ -9,7 +9,7 @@ use borrow.Author.Tests.{eq-eqb, ne_eqb, eqb-true, leb-true}
 use lib.Dec.{ltb, leb, eqb}
 use lib.ListN.{length, get_or, take, drop}
 use Rattle.std.specs.Prelude.{Result, Ok, Err, ⊤}
-use Rattle.std.specs.Result.{result_and}
+use Rattle.std.specs.Result.{result_and, result_unwrap_or}
 use Rattle.codec.specs.declared.refusal.Refusal.{Refusal}
 use Rattle.codec.specs.declared.refusal.Refusal.TheVariants.{RecordMalformed, HeightUnexpected}
 use Rattle.codec.specs.Check.{Check, passed, and_then}
@@ -26,11 +26,12 @@ use Rattle.extension.specs.declared.parameters.Mismatch.{Mismatch}
 use Rattle.extension.specs.declared.parameters.ParameterMap.{ParameterMap}
 use Rattle.extension.specs.declared.section.Section.{Section}
 use Rattle.extension.specs.Section.{part, section_items}
-use Rattle.extension.specs.Body.{read_field, check_body}
+use Rattle.extension.specs.Body.{read_field}
 use Rattle.extension.specs.Parameters.{no_parameters, parameters_in, parameters_of}
 use Rattle.extension.specs.Boundary.{computed_of}
 use Rattle.walk.specs.declared.Walked.{Walked}
-use Rattle.walk.specs.Walk.{WalkedIs, match_found}
+use Rattle.extension.proofs.Laws.Parameters.{parameters-refused, parameters-is}
+use Rattle.walk.specs.Walk.{table_in, WalkedIs, match_found}
 use Rattle.walk.proofs.Laws.Match.{match-parameters}
 use Rattle.archive.specs.declared.record.RecordPlace.{RecordPlace}
 use Rattle.archive.specs.declared.record.Unread.{Unread}
@@ -147,37 +148,40 @@ module _ (s : Replay) (height : ℕ) (body votes : List ℕ) where
     unfolding by_refusal
     after-body q = ap (λ (r : Result ParameterMap Refusal). and_then (by_refusal r) later) q ∙ ap after-early p ∙ in_order
 
-    pub parts-body : {e : Refusal} → check_body body ≡ Err e → Err (Refused e) ≡ on_parts s height body votes
-    unfolding by_refusal parameters_of
-    parts-body q = after-body (sym (ap (λ (r : Result Section Refusal). and_then r (λ x. Ok (parameters_in (section_items (read_field body) x) no_parameters))) q))
-
     -- the body, by what was found in it
     module _ (w : Walked) (is-w : WalkedIs body w) where
-      abbrev found : ParameterMap
-      found = parameters_in (section_items (read_field body) w.fields) no_parameters
+      pub parts-body : {e : Refusal} → w.fields ≡ Err e → Err (Refused e) ≡ on_parts s height body votes
+      unfolding by_refusal
+      parts-body {e} q = after-body (parameters-refused body e (sym q ∙ is-w.fields))
 
-      found_is : Ok found ≡ parameters_of body
-      unfolding parameters_of
-      found_is = let fields = is-w.fields in rw fields
+      module _ {x : Section} (fields : w.fields ≡ Ok x) where
+        abbrev found : ParameterMap
+        found = parameters_in (section_items (read_field body) x) no_parameters
 
-      module _ (vote : Bool) (is-vote : vote ≡ boundary_votes votes) where
-        after-computed : {r : Result Computed Refusal} → r ≡ computed_of s.settings height s.table (entries s.tally) vote (part body w.start w.end)
-            → and_then (by_refusal r) (after_boundary s height votes found) ≡ on_parts s height body votes
-        unfolding by_refusal
-        after-computed q =
-            let update = ap (computed_of s.settings height s.table (entries s.tally) (boundary_votes votes)) is-w.update.is in
-            let same = ap (λ (v : Bool). computed_of s.settings height s.table (entries s.tally) v (part body w.start w.end)) is-vote in
-            ap (λ (r : Result Computed Refusal). and_then (by_refusal r) (after_boundary s height votes found)) (q ∙ same ∙ update) ∙ after-body found_is
+        found_is : Ok found ≡ parameters_of body
+        found_is = parameters-is body x (sym fields ∙ is-w.fields) found refl
 
-        pub parts-boundary : {e : Refusal} → Err e ≡ computed_of s.settings height s.table (entries s.tally) vote (part body w.start w.end) → Err (Refused e) ≡ on_parts s height body votes
-        unfolding by_refusal
-        parts-boundary q = after-computed q
+        table_is : w.found ≡ table_in found
+        table_is = is-w.found ∙ ap (λ (r : Result ParameterMap Refusal). table_in (result_unwrap_or r no_parameters)) (sym found_is)
 
-        pub parts-pass : {b : Computed} → Ok b ≡ computed_of s.settings height s.table (entries s.tally) vote (part body w.start w.end)
-            → {m : Result ⊤ Mismatch} → m ≡ match_found b.table w.found → after_match s height votes b.table m ≡ on_parts s height body votes
-        unfolding by_refusal after_boundary
-        parts-pass {b} q is_m =
-            ap (after_match s height votes b.table) (is_m ∙ ap (match_found b.table) (is-w.found found (sym found_is)) ∙ match-parameters b.table found) ∙ after-computed q
+        module _ (vote : Bool) (is-vote : vote ≡ boundary_votes votes) where
+          after-computed : {r : Result Computed Refusal} → r ≡ computed_of s.settings height s.table (entries s.tally) vote (part body w.start w.end)
+              → and_then (by_refusal r) (after_boundary s height votes found) ≡ on_parts s height body votes
+          unfolding by_refusal
+          after-computed q =
+              let update = ap (computed_of s.settings height s.table (entries s.tally) (boundary_votes votes)) is-w.update.is in
+              let same = ap (λ (v : Bool). computed_of s.settings height s.table (entries s.tally) v (part body w.start w.end)) is-vote in
+              ap (λ (r : Result Computed Refusal). and_then (by_refusal r) (after_boundary s height votes found)) (q ∙ same ∙ update) ∙ after-body found_is
+
+          pub parts-boundary : {e : Refusal} → Err e ≡ computed_of s.settings height s.table (entries s.tally) vote (part body w.start w.end) → Err (Refused e) ≡ on_parts s height body votes
+          unfolding by_refusal
+          parts-boundary q = after-computed q
+
+          pub parts-pass : {b : Computed} → Ok b ≡ computed_of s.settings height s.table (entries s.tally) vote (part body w.start w.end)
+              → {m : Result ⊤ Mismatch} → m ≡ match_found b.table w.found → after_match s height votes b.table m ≡ on_parts s height body votes
+          unfolding by_refusal after_boundary
+          parts-pass {b} q is_m =
+              ap (after_match s height votes b.table) (is_m ∙ ap (match_found b.table) table_is ∙ match-parameters b.table found) ∙ after-computed q
 
 -- after the match
 module _ (s : Replay) (height : ℕ) (votes : List ℕ) (t : Table) where

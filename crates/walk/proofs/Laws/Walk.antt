@@ -8,26 +8,40 @@ use native.Mathlib.Omega.{arith}
 use lib.ListN.{length, set}
 use borrow.Author.Tests.{not-true}
 use Rattle.std.specs.Prelude.{Result, Ok, Err}
+use Rattle.std.specs.Result.{result_unwrap_or}
 use Rattle.codec.specs.declared.refusal.Refusal.{Refusal}
 use Rattle.codec.specs.declared.refusal.Refusal.TheVariants.{ParameterSize}
 use Rattle.voting.specs.Value.{Value}
 use Rattle.voting.specs.declared.table.Table.{Table}
 use Rattle.voting.proofs.Laws.Tests.{by-test, both}
 use Rattle.extension.specs.declared.body.FieldPlace.{FieldPlace}
-use Rattle.extension.specs.Section.{Listing, item, listing, items, section, closed, section_items, any, part}
-use Rattle.extension.specs.Body.{Field, field_at, read_field, extension_of, body_field, update_key, update_in, wrong_size, wrong_parameter}
-use Rattle.extension.specs.Parameters.{no_parameters, parameters_in}
+use Rattle.extension.specs.declared.parameters.ParameterMap.{ParameterMap}
+use Rattle.extension.specs.Section.{Listing, item, listing, items, section, closed, section_items, any, part, PartIs}
+use Rattle.extension.specs.Body.{Field, field_at, read_field, extension_of, proposed_update, body_field, update_key, update_in, wrong_size, wrong_parameter}
+use Rattle.extension.specs.Parameters.{no_parameters, parameters_in, parameters_of}
 use Rattle.extension.proofs.Laws.Section.{left_none, left-stop, left-item, closed-done, closed-stop, closed-item, items-done, items-item}
-use Rattle.extension.proofs.Laws.Body.{field_in, field-read, field-unread, field-inside, at_here, wrong-place, check-refused, check-wrong, check-right, proposed-is}
-use Rattle.extension.proofs.Laws.Parameters.{parameters-is}
+use Rattle.extension.proofs.Laws.Body.{field_in, field-read, field-unread, field-inside, at_here, wrong-place, check-refused, check-wrong, check-right, proposed-is, proposed-none}
+use Rattle.extension.proofs.Laws.Parameters.{parameters-refused, parameters-is}
 use Rattle.walk.specs.declared.Walked.{Walked}
-use Rattle.walk.specs.Walk.{table_in, Walks}
+use Rattle.walk.specs.Walk.{table_in, WalkedIs}
 use Rattle.walk.specs.Fields.{place_of, no_slots, slot_in, stored, table_from}
 use Rattle.walk.proofs.Laws.Slots.{holds-none, holds-stored, table-holds}
 
+-- the table of a body, by what its parameters are
+table-by : (s : List ℕ) → {p : Result ParameterMap Refusal} → p ≡ parameters_of s
+    → table_in (result_unwrap_or p no_parameters) ≡ table_in (result_unwrap_or (parameters_of s) no_parameters)
+table-by s q = ap (λ (p : Result ParameterMap Refusal). table_in (result_unwrap_or p no_parameters)) q
+
 -- a body whose fields are not read
-pub refused-is : (s : List ℕ) (e : Refusal) → Err e ≡ extension_of s → (r : Result Walked Refusal) → r ≡ Err e → Walks s r
-refused-is s e q r is-r = rw is-r (sym (check-refused s e q))
+pub refused-is : (s : List ℕ) (e : Refusal) → Err e ≡ extension_of s → (r : Walked)
+    → r ≡ record { fields = Err e; start = 0; end = 0; found = table_in no_parameters } → WalkedIs s r
+refused-is s e q r is-r =
+    rw is-r
+    (record {
+      fields = check-refused s e q;
+      update = record { ordered = omega arith; inside = omega arith; is = proposed-none s e q };
+      found = table-by s (parameters-refused s e (check-refused s e q));
+    })
 
 -- what was met at a position of a body that is not too long
 pub met : (s : List ℕ) (at : ℕ) → length s ≤ 65536 → (x y : Result FieldPlace Refusal) → x ≡ body_field s at → x ≡ y → y ≡ field_at s at
@@ -129,26 +143,35 @@ module _ (s : List ℕ) (count begin k at : ℕ) (wrong seen : Bool) (start end 
       unfolding any section_items
       wrong-is = sym (or-none wrong) ∙ ap (λ (fs : List Field). wrong || any wrong_parameter fs) (sym over) ∙ w.wrongs
 
-      update-is : update_in (section_items (read_field s) (section count begin at)) ≡ part s start end
+      update-is : PartIs s start end (proposed_update s)
       unfolding update_in section_items
-      update-is = sym (by-test seen (λ y. rw y at w.update) (λ n. w.unseen n ∙ ap update_in (sym over) ∙ (rw n at w.update)))
+      update-is =
+          record {
+            ordered = w.ordered;
+            inside = w.inside;
+            is =
+                by-test seen (λ y. rw y at w.update) (λ n. w.unseen n ∙ ap update_in (sym over) ∙ (rw n at w.update))
+                ∙ proposed-is s (section count begin at) read_is;
+          }
 
-      pub walk-wrong : wrong ≡ true → Walks s (Err ParameterSize)
-      walk-wrong y = sym (check-wrong s (section count begin at) read_is wrong wrong-is y)
+      pub walk-wrong : wrong ≡ true → (t : Table) → t ≡ table_in no_parameters
+          → WalkedIs s (record { fields = Err ParameterSize; start = start; end = end; found = t })
+      walk-wrong y t is-t =
+          let refused = check-wrong s (section count begin at) read_is wrong wrong-is y in
+          record { fields = refused; update = update-is; found = is-t ∙ table-by s (parameters-refused s ParameterSize refused) }
 
       pub walk-right : wrong ≡ false → (t : Table) → t ≡ table_from found
-          → Walks s (Ok (record { fields = section count begin at; start = start; end = end; found = t }))
+          → WalkedIs s (record { fields = Ok (section count begin at); start = start; end = end; found = t })
       unfolding stored section_items
       walk-right n t is-t =
           let fs = items (listed s count begin) in
           let all : found ≡ stored fs no_slots = ap (λ (gs : List Field). stored gs found) (sym over) ∙ w.slots in
           let right = check-right s (section count begin at) read_is wrong wrong-is n in
-          let map = parameters-is s (section count begin at) right (parameters_in fs no_parameters) refl in
-          let kept : t ≡ table_in (parameters_in fs no_parameters) =
-          is-t ∙ ap table_from all
-          ∙ table-holds (stored fs no_slots) (parameters_in fs no_parameters) (holds-stored fs no_slots no_parameters holds-none (sym wrong-is ∙ n)) in
           record {
-            fields = sym right;
-            update = record { ordered = w.ordered; inside = w.inside; is = sym update-is ∙ proposed-is s (section count begin at) read_is };
-            found = λ m e. kept ∙ ap table_in (let same : parameters_in fs no_parameters ≡ m = cc in same);
+            fields = right;
+            update = update-is;
+            found =
+                is-t ∙ ap table_from all
+                ∙ table-holds (stored fs no_slots) (parameters_in fs no_parameters) (holds-stored fs no_slots no_parameters holds-none (sym wrong-is ∙ n))
+                ∙ table-by s (parameters-is s (section count begin at) right (parameters_in fs no_parameters) refl);
           }
