@@ -8,11 +8,12 @@ use codec::big_endian;
 // The most bytes of a body in a record.
 pub const BODY_MOST: usize = 32768;
 
-const HEIGHT_TAG: u8 = 1;
-
-const BODY_TAG: u8 = 2;
-
-const VOTES_TAG: u8 = 3;
+// What a field begins with.
+enum Tag {
+    Height = 1,
+    Body,
+    Votes,
+}
 
 // Why bytes begin with no record or field: at least how many bytes are missing, or another tag or length than asked for.
 #[derive(Clone, Copy, Debug, PartialEq, Eq)]
@@ -36,9 +37,9 @@ pub fn read_record(bytes: &[u8], votes_size: usize) -> Result<RecordPlace, Unrea
     ensures value { result ≡ record_at bytes.now votes_size }
     ensures exact { RecordExact bytes.now votes_size }
 {
-    let height_end = tagged_at(bytes, 0, HEIGHT_TAG, 4, 4)?;
-    let body_end = tagged_at(bytes, height_end, BODY_TAG, 0, BODY_MOST)?;
-    let end = tagged_at(bytes, body_end, VOTES_TAG, votes_size, votes_size)?;
+    let height_end = tagged_at(bytes, 0, Tag::Height as u8, 4, 4)?;
+    let body_end = tagged_at(bytes, height_end, Tag::Body as u8, 0, BODY_MOST)?;
+    let end = tagged_at(bytes, body_end, Tag::Votes as u8, votes_size, votes_size)?;
     Ok(RecordPlace {
         height: big_endian::joined(bytes[3], bytes[4], bytes[5], bytes[6]),
         body: 10,
@@ -75,7 +76,7 @@ fn tagged_at(bytes: &[u8], at: usize, tag: u8, least: usize, most: usize) -> Res
 fn length_of(a: u8, b: u8) -> usize
     ensures { result ≡ big_endian (a ∷ b ∷ []) }
 {
-    (a as usize) * 256 + (b as usize)
+    u16::from_be_bytes([a, b]) as usize
 }
 
 // A value of n bytes that begins at a position.

@@ -235,9 +235,9 @@ fn onward(s: Replay, height: u32, votes: &[u8], t: Table) -> Replay
     let length = s.settings.voting_length;
     let next = height + length;
     Replay {
-        settings: s.settings,
         table: t,
         next,
         tally: tally::tally_votes_seeded(height, votes, next, length).unwrap_or(tally::no_tally()),
+        ..s
     }
 }

@@ -41,10 +41,7 @@ pub fn begin<'a>(body: &'a [u8]) -> Reader<'a>
 pub fn moved<'a>(r: Reader<'a>, cursor: Result<Cursor, Refusal>) -> Reader<'a>
     ensures { (result.body ≡ r.entry.body) × (result.cursor ≡ cursor) }
 {
-    Reader {
-        body: r.body,
-        cursor,
-    }
+    Reader { cursor, ..r }
 }
 
 // The next field, and the cursor after it; none where none is left; or the refusal of the body.
