@@ -1,10 +1,10 @@
 // The extension body: a 32-byte id, a count, and fields. docs/RULES.md, "Extension body and match".
 ghost use Rattle.std.specs.Prelude.{◌≡◌, length};
-ghost use Rattle.extension.specs.Section.{listing, closed, section_items, any, PartIs};
+ghost use Rattle.extension.specs.Section.{listing, closed, section_items, any};
 ghost use Rattle.extension.specs.Pack.{BodyAgain};
 ghost use Rattle.extension.specs.Body.{field_at, read_field, extension_of, header_id, body_field, field_value, update_key, parameter_key, update_in, proposed_update, wrong_size, wrong_parameter, check_body};
 
-use crate::section::{Section, Span};
+use crate::section::Section;
 use codec::refusal::Refusal;
 use codec::vlq;
 
@@ -77,10 +77,7 @@ pub fn extract_disabling_rules_from_kv(body: &[u8]) -> &[u8]
     ensures { result.now ≡ proposed_update body.now }
 {
     match parse_extension_bytes(body) {
-        Ok(fields) => {
-            let found = find_update(body, fields);
-            &body[found.start..found.end]
-        }
+        Ok(fields) => find_update(body, fields),
         Err(_) => &body[..0],
     }
 }
@@ -146,26 +143,23 @@ pub(crate) fn parameter_key(key0: u8, key1: u8) -> bool
     (key0 == 0) & (key1 != ID_SOFT_FORK_DISABLING_RULES)
 }
 
-// Where the value of the first update field stands; an empty place where there is none.
-fn find_update(body: &[u8], fields: Section) -> Span
-    ensures { PartIs body.now result.start result.end (update_in (section_items (read_field body.now) fields)) }
+// The value of the first update field; the empty part where there is none.
+fn find_update(body: &[u8], fields: Section) -> &[u8]
+    ensures { result.now ≡ update_in (section_items (read_field body.now) fields) }
 {
     let mut at = fields.begin;
     for _ in 0..fields.count {
         match read_field(body, at) {
             Ok(f) => {
                 if update_key(f.key0, f.key1) {
-                    return Span {
-                        start: f.start,
-                        end: f.end,
-                    };
+                    return &body[f.start..f.end];
                 }
                 at = f.end;
             }
             Err(_) => break,
         }
     }
-    Span { start: 0, end: 0 }
+    &body[..0]
 }
 
 // Whether a field is a parameter whose value is not four bytes.

@@ -8,25 +8,24 @@ pub fn rule_may_not_be_disabled(id: i32) -> bool
     if id < 0 {
         return false;
     }
-    flag_in(&mandatory_flags(), id as u32)
+    flag_in(mandatory_flags(), id as u32)
 }
 
-// The flag of a rule, false past the table, which is lent so that whoever asks of many rules makes it once.
+// The flag of a rule, false past the table.
 pub(crate) fn flag_in(flags: &[bool], id: u32) -> bool
     ensures { result ≡ get_or flags.now id false }
 {
-    let at = id as usize;
-    if at < flags.len() { flags[at] } else { false }
+    flags.get(id as usize).copied().unwrap_or(false)
 }
 
-pub(crate) fn mandatory_flags() -> [bool; 512]
-    ensures { result ≡ mandatory_flags }
+pub(crate) fn mandatory_flags() -> &'static [bool; 512]
+    ensures { result.now ≡ mandatory_flags }
 {
-    MANDATORY
+    &MANDATORY
 }
 
 // A flag for each rule id from 0 to 511, the id beside it: true where the rule is mandatory.
-const MANDATORY: [bool; 512] = [
+static MANDATORY: [bool; 512] = [
     false, // 0
     false, // 1
     false, // 2

@@ -77,13 +77,10 @@ fn parameters_in(body: &[u8], fields: Section) -> ParameterMap
 fn take_field(m: ParameterMap, key0: u8, key1: u8, v: &[u8]) -> ParameterMap
     ensures { result ≡ taken (record { key0 = key0; key1 = key1; value = v.now }) m }
 {
-    if v.len() != 4 {
-        return m;
+    match *v {
+        [a, b, c, d] if body::parameter_key(key0, key1) => m.with(key1, number_in(a, b, c, d)),
+        _ => m,
     }
-    if body::parameter_key(key0, key1) {
-        return m.with(key1, number_in(v[0], v[1], v[2], v[3]));
-    }
-    m
 }
 
 // Four bytes as an entry, the most significant first.
@@ -110,11 +107,5 @@ pub fn check_parameters_v6(expected: Table, parsed: ParameterMap) -> Result<(), 
 pub fn differs(computed: Value, found: Value) -> bool
     ensures { result ≡ not (agrees computed found) }
 {
-    match computed {
-        None => false,
-        Some(x) => match found {
-            None => true,
-            Some(y) => x != y,
-        },
-    }
+    computed.is_some_and(|x| found != Some(x))
 }

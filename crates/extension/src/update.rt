@@ -31,7 +31,7 @@ pub struct StatusPlace {
 }
 
 // The rules and the statuses of an update, by where they stand in its bytes. An empty update has none.
-#[derive(Clone, Copy)]
+#[derive(Clone, Copy, Default)]
 pub struct Update {
     pub rules: Section,
     pub statuses: Section,
@@ -110,15 +110,7 @@ pub fn status_raw(bytes: &[u8], at: usize) -> &[u8]
 pub fn no_update() -> Update
     ensures { result ≡ no_update }
 {
-    let none = Section {
-        count: 0,
-        begin: 0,
-        end: 0,
-    };
-    Update {
-        rules: none,
-        statuses: none,
-    }
+    Update::default()
 }
 
 // The rule at a position.
@@ -210,7 +202,7 @@ fn rules_section(bytes: &[u8], rule: u16, count: u32, begin: usize) -> Result<Ru
     let mut end = begin;
     for _ in 0..count {
         let x = read_rule(bytes, end)?;
-        mandatory = mandatory | mandatory::flag_in(&flags, x.id as u32);
+        mandatory = mandatory | mandatory::flag_in(flags, x.id as u32);
         listed = listed | (rule == x.id);
         end = x.next;
     }

@@ -1,7 +1,0 @@
-use mathlib.Core.Path.{sym}
-use mathlib.Core.Bool.{false}
-use lib.ListN.{get_or-eq_default}
-use Rattle.extension.proofs.mandatory.flag_in.Goals as goal
-
-pub returns-else-at-flags : goal.returns-else-at-flags
-returns-else-at-flags c = sym (get_or-eq_default c.args.flags.now false c.if-at-flags.false)
