@@ -8,8 +8,16 @@ use lib.Dec.{eqb}
 use lib.IntN.{ℤ}
 use lib.ListN.{length, get_or, drop, set, length-append, drop_of_length-le}
 use lib.Seq.{sets, sets-eq, drop-cons}
-use borrow.Author.Tests.{eqb-true, eqb-false}
+use borrow.Author.Tests.{eqb-true, eqb-false, ne_eqb}
 use denote.Param.Members.{Mut, Called}
+use Rattle.std.specs.Bool.{then_some}
+use mathlib.Core.Bool.{not}
+use mir.Syntax.{Width}
+use mir.Val.{SFits, bits, to_z, of_z}
+use mir.ValLaws.{to_z-of_z}
+use Rattle.codec.proofs.Laws.Signed.{of_z-is, to_z-is}
+use Rattle.std.specs.Int.{w32, to_be_bytes, from_be_bytes}
+use Rattle.codec.specs.BigEndian.{big_endian}
 use Rattle.std.specs.Array.{IsFromFnResult, IsFromFnResultFrom}
 use Rattle.std.specs.List.{range_with_len}
 use Rattle.std.proofs.lemmas.List.FromFn.{fill_by_all}
@@ -37,9 +45,9 @@ pub renamed : {a b d d' : List ℕ} {n at : ℕ} → a ≡ b → Put n at a d d'
 renamed e p = rw (← e) p
 
 -- four bytes, and a byte before them
-pub number_put : (n : ℕ) {d d' : List ℕ} {at : ℕ} → d' ≡ sets d at ((n / 0x100_0000 % 256) ∷ (n / 0x1_0000 % 256) ∷ (n / 256 % 256) ∷ (n % 256) ∷ []) → Put 4 at (number_bytes n) d d'
+pub number_put : (n : ℕ) {b d d' : List ℕ} {at : ℕ} → b ≡ to_be_bytes w32 n → d' ≡ sets d at b → Put 4 at (number_bytes n) d d'
 unfolding number_bytes
-number_put n {d} {at = at} e = record { is = e ∙ ap (sets d at) (four_bytes_lem n); long = bytes-length 4 n }
+number_put n {d = d} {at = at} p e = record { is = e ∙ ap (sets d at) (p ∙ four_bytes_lem n); long = bytes-length 4 n }
 
 pub mark-put : (mark n : ℕ) {d d' d'' : List ℕ} {at : ℕ} → d' ≡ set d at mark → Put 4 (at + 1) (number_bytes n) d' d'' → Put 5 at (marked mark n) d d''
 unfolding marked
@@ -54,19 +62,21 @@ pub number-bytes : (v : Value) (z : ℤ) (b : ℕ) → v ≡ Some z → b ≡ bi
 unfolding value_bytes
 number-bytes v z b e q = rw (e, q)
 
--- a value read
-module _ (bytes : List ℕ) (at present n : ℕ) (p : present ≡ get_or bytes at 0) (q : n ≡ number_at bytes (at + 1)) where
-  pub value-absent : present ≡ 0 → None ≡ value_at bytes at
-  unfolding value_at value_of
-  value-absent h = rw (← p, h)
+-- the bits of a signed argument, as std has them; and bits read as a signed number
+pub bits-are : (w : Width) (z : ℤ) → SFits w z → {n : ℕ} → n ≡ of_z w (to_z w (of_z w z)) → n ≡ bits_of (bits w) z
+bits-are w z f e = e ∙ ap (of_z w) (to_z-of_z w z f) ∙ of_z-is w z f
 
-  pub value-number : (present ≡ 0 → ⊥) → (z : ℤ) → z ≡ signed_of 32 n → Some z ≡ value_at bytes at
-  unfolding value_at value_of
-  value-number h z e = rw (← p, ← q, e) (go present h)
-    where
-      go : (f : ℕ) → (f ≡ 0 → ⊥) → Some (signed_of 32 n) ≡ value_of f n
-      go zero h = absurd (h refl)
-      go (suc f) h = refl
+pub signed_is : (w : Width) (z : ℤ) → SFits w z → (n : ℕ) → z ≡ to_z w n → to_z w (of_z w z) ≡ signed_of (bits w) n
+signed_is w z f n e = to_z-of_z w z f ∙ e ∙ to_z-is w n
+
+-- a value read
+pub value_read : (bytes : List ℕ) (at present n : ℕ) → present ≡ get_or bytes at 0 → n ≡ number_at bytes (at + 1) → (z : ℤ) → z ≡ signed_of 32 n → then_some (not (eqb present 0)) z ≡ value_at bytes at
+unfolding value_at value_of
+value_read bytes at present n p q z e = rw (← p, ← q, e) (go present)
+  where
+    go : (f : ℕ) → then_some (not (eqb f 0)) (signed_of 32 n) ≡ value_of f n
+    go zero = refl
+    go (suc f) = rw (ne_eqb (suc f) 0 (λ e. omega arith))
 
 -- every value has five bytes
 pub value-long : (v : Value) → length (value_bytes v) ≡ 5
@@ -107,10 +117,18 @@ module _ {F B : Type 0} (g : Mut F (ℕ × Unit {0}) B) (f : F) (n : ℕ) (h : �
   made ys r = fill_by_all h ys n d r.long (λ k l. made-from n 0 ys (omega arith) r.each k (omega arith) l)
 
 -- bytes read one after another
-pub bytes_read : (n at : ℕ) (bytes : List ℕ) → map (λ (k : ℕ). get_or bytes k 0) (range_with_len at n) ≡ bytes_at n bytes at
+pub bytes_read : (n i at from : ℕ) (bytes : List ℕ) → from ≡ at + i → map (λ (k : ℕ). get_or bytes (at + k) 0) (range_with_len i n) ≡ bytes_at n bytes from
 unfolding bytes_at
-bytes_read zero at bytes = refl
-bytes_read (suc n) at bytes = ap (λ (bs : List ℕ). get_or bytes at 0 ∷ bs) (bytes_read n (at + 1) bytes)
+bytes_read zero i at from bytes e = refl
+bytes_read (suc n) i at from bytes e = rw e (ap (λ (bs : List ℕ). get_or bytes (at + i) 0 ∷ bs) (bytes_read n (i + 1) at (at + i + 1) bytes (omega arith)))
+
+-- a number read
+pub number_read : (bytes : List ℕ) (at : ℕ) (b : List ℕ) → b ≡ bytes_at 4 bytes at → (n : ℕ) → n ≡ from_be_bytes w32 b → n ≡ number_at bytes at
+unfolding number_at big_endian bytes_at
+number_read bytes at b p n e =
+    let two : at + 1 + 1 ≡ at + 2 = omega arith in
+    let three : at + 1 + 1 + 1 ≡ at + 3 = omega arith in
+    rw (e, p, three, two) (omega arith)
 
 -- slots read one after another
 pub slots_read : (n i at from : ℕ) (bytes : List ℕ) → from ≡ at + 5 * i → map (λ (k : ℕ). (value_at bytes (at + 5 * k))) (range_with_len i n) ≡ slots_at n bytes from

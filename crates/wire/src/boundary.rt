@@ -11,16 +11,11 @@ use lent::boundary::BoundaryAt;
 pub fn question_of(bytes: &[u8]) -> BoundaryAt
     ensures { result ≡ question_of bytes.now }
 {
-    let config = values::settings_at(bytes, 0);
-    let height = numbers::u32_at(bytes, 16);
-    let table = values::table_at(bytes, 20);
-    let b = numbers::byte_at(bytes, 80);
-    let vote = b != 0;
     BoundaryAt {
-        config,
-        height,
-        table,
-        vote,
+        config: values::settings_at(bytes, 0),
+        height: numbers::u32_at(bytes, 16),
+        table: values::table_at(bytes, 20),
+        vote: numbers::byte_at(bytes, 80) != 0,
     }
 }
 
@@ -29,9 +24,7 @@ pub fn write_computed(c: Computed, out: &mut [u8]) -> Result<usize, Refusal>
     ensures size { length (computed_bytes c) ≡ 84 }
 {
     let mut cells = [0u8; 84];
-    let table = c.table;
-    let activated = c.activated;
-    values::put_table(&mut cells, 0, table);
-    places::put_update(&mut cells, 60, activated);
+    values::put_table(&mut cells, 0, c.table);
+    places::put_update(&mut cells, 60, c.activated);
     numbers::write_bytes(&cells, out)
 }

@@ -4,53 +4,50 @@ ghost use Rattle.codec.specs.Output.{outcome, writes};
 ghost use Rattle.wire.specs.Numbers.{bytes_at, number_at, number_bytes, four_bytes, votes_at};
 ghost use Rattle.wire.specs.Put.{Put, Back};
 
+use codec::output;
 use codec::refusal::Refusal;
-use codec::{big_endian, output};
 use std::array;
 
 pub fn byte_at(bytes: &[u8], at: usize) -> u8
     ensures { result ≡ get_or bytes.now at 0 }
 {
-    if at < bytes.len() { bytes[at] } else { 0 }
+    bytes.get(at).copied().unwrap_or(0)
 }
 
 pub(crate) fn u32_at(bytes: &[u8], at: usize) -> u32
     requires { at ≤ 5000 }
     ensures { result ≡ number_at bytes.now at }
 {
-    let a = byte_at(bytes, at);
-    let b = byte_at(bytes, at + 1);
-    let c = byte_at(bytes, at + 2);
-    let d = byte_at(bytes, at + 3);
-    big_endian::joined(a, b, c, d)
+    u32::from_be_bytes(bytes_at(bytes, at))
 }
 
 // The three vote bytes of a header.
 pub fn votes_of(bytes: &[u8]) -> [u8; 3]
     ensures { result ≡ votes_at bytes.now 0 }
 {
-    let a = byte_at(bytes, 0);
-    let b = byte_at(bytes, 1);
-    let c = byte_at(bytes, 2);
-    [a, b, c]
+    bytes_at(bytes, 0)
 }
 
 // The id of the header that a body belongs to.
 pub fn header_id_of(bytes: &[u8]) -> [u8; 32]
     ensures { result ≡ bytes_at 32 bytes.now 0 }
 {
-    array::from_fn(|i| byte_at(bytes, i))
+    bytes_at(bytes, 0)
+}
+
+// So many bytes from a position on.
+fn bytes_at<const N: usize>(bytes: &[u8], at: usize) -> [u8; N]
+    requires { at ≤ 5000 }
+    ensures { result ≡ bytes_at N bytes.now at }
+{
+    array::from_fn(|i| byte_at(bytes, at + i))
 }
 
 pub(crate) fn put_u32(out: &mut [u8], at: usize, n: u32)
     ensures put { Put 4 at (number_bytes n) out.old out.new }
     ensures back { Back number_at (number_bytes n) n }
 {
-    let a = (n / 0x100_0000 % 256) as u8;
-    let b = (n / 0x1_0000 % 256) as u8;
-    let c = (n / 256 % 256) as u8;
-    let d = (n % 256) as u8;
-    output::put_bytes(out, at, &[a, b, c, d]);
+    output::put_bytes(out, at, &n.to_be_bytes());
 }
 
 // A position or a count: its 32 low bits.

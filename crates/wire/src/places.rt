@@ -7,7 +7,6 @@ ghost use Rattle.wire.specs.Places.{section_at, section_bytes, update_at, update
 use crate::numbers;
 use archive::record::RecordPlace;
 use codec::refusal::Refusal;
-use codec::signed;
 use extension::body::FieldPlace;
 use extension::section::Section;
 use extension::update::{RulePlace, StatusPlace, Update};
@@ -21,22 +20,20 @@ pub fn section_of(bytes: &[u8]) -> Section
 pub fn update_of(bytes: &[u8]) -> Update
     ensures { result ≡ update_at bytes.now 0 }
 {
-    let rules = section_at(bytes, 0);
-    let statuses = section_at(bytes, 12);
-    Update { rules, statuses }
+    Update {
+        rules: section_at(bytes, 0),
+        statuses: section_at(bytes, 12),
+    }
 }
 
 fn section_at(bytes: &[u8], at: usize) -> Section
     requires { at ≤ 3000 }
     ensures { result ≡ section_at bytes.now at }
 {
-    let count = numbers::u32_at(bytes, at);
-    let begin = numbers::u32_at(bytes, at + 4);
-    let end = numbers::u32_at(bytes, at + 8);
     Section {
-        count,
-        begin: begin as usize,
-        end: end as usize,
+        count: numbers::u32_at(bytes, at),
+        begin: numbers::u32_at(bytes, at + 4) as usize,
+        end: numbers::u32_at(bytes, at + 8) as usize,
     }
 }
 
@@ -65,7 +62,14 @@ pub fn write_field(f: FieldPlace, out: &mut [u8]) -> Result<usize, Refusal>
     ensures size { length (field_bytes f) ≡ 16 }
 {
     let mut cells = [0u8; 16];
-    numbers::put_four(&mut cells, 0, f.key0 as u32, f.key1 as u32, f.start, f.end);
+    numbers::put_four(
+        &mut cells,
+        0,
+        u32::from(f.key0),
+        u32::from(f.key1),
+        f.start,
+        f.end,
+    );
     numbers::write_bytes(&cells, out)
 }
 
@@ -74,7 +78,7 @@ pub fn write_rule(x: RulePlace, out: &mut [u8]) -> Result<usize, Refusal>
     ensures size { length (rule_bytes x) ≡ 8 }
 {
     let mut cells = [0u8; 8];
-    numbers::put_u32(&mut cells, 0, x.id as u32);
+    numbers::put_u32(&mut cells, 0, u32::from(x.id));
     numbers::put_usize(&mut cells, 4, x.next);
     numbers::write_bytes(&cells, out)
 }
@@ -84,9 +88,15 @@ pub fn write_status(x: StatusPlace, out: &mut [u8]) -> Result<usize, Refusal>
     ensures size { length (status_bytes x) ≡ 16 }
 {
     let mut cells = [0u8; 16];
-    let rule = x.rule;
-    let bits = signed::bits_i16(rule.0);
-    numbers::put_four(&mut cells, 0, bits as u32, x.code as u32, x.start, x.end);
+    let rule = x.rule.0.cast_unsigned();
+    numbers::put_four(
+        &mut cells,
+        0,
+        u32::from(rule),
+        u32::from(x.code),
+        x.start,
+        x.end,
+    );
     numbers::write_bytes(&cells, out)
 }
 
@@ -116,8 +126,6 @@ pub(crate) fn put_update(out: &mut [u8], at: usize, u: Update)
     ensures put { Put 24 at (update_bytes u) out.old out.new }
     ensures back { Narrow u.rules → Narrow u.statuses → Back update_at (update_bytes u) u }
 {
-    let rules = u.rules;
-    let statuses = u.statuses;
-    put_section(out, at, rules);
-    put_section(out, at + 12, statuses);
+    put_section(out, at, u.rules);
+    put_section(out, at + 12, u.statuses);
 }

@@ -11,15 +11,11 @@ use codec::refusal::Refusal;
 pub fn state_of(bytes: &[u8]) -> Replay
     ensures { result ≡ state_at bytes.now 0 }
 {
-    let settings = values::settings_at(bytes, 0);
-    let table = values::table_at(bytes, 16);
-    let next = numbers::u32_at(bytes, 76);
-    let tally = values::tally_at(bytes, 80);
     Replay {
-        settings,
-        table,
-        next,
-        tally,
+        settings: values::settings_at(bytes, 0),
+        table: values::table_at(bytes, 16),
+        next: numbers::u32_at(bytes, 76),
+        tally: values::tally_at(bytes, 80),
     }
 }
 
@@ -37,11 +33,8 @@ fn put_state(out: &mut [u8], x: Replay)
     ensures put { Put 95 0 (state_bytes x) out.old out.new }
     ensures back { Back state_at (state_bytes x) x }
 {
-    let settings = x.settings;
-    let table = x.table;
-    let tally = x.tally;
-    values::put_settings(out, 0, settings);
-    values::put_table(out, 16, table);
+    values::put_settings(out, 0, x.settings);
+    values::put_table(out, 16, x.table);
     numbers::put_u32(out, 76, x.next);
-    values::put_tally(out, 80, tally);
+    values::put_tally(out, 80, x.tally);
 }

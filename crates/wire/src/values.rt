@@ -5,8 +5,8 @@ ghost use Rattle.wire.specs.Put.{Put, Back, Written};
 ghost use Rattle.wire.specs.Values.{marked, value_at, value_bytes, slots_at, slots_bytes, fork_at, fork_bytes, table_at, table_bytes, settings_at, settings_bytes, entry_at, entry_bytes, tally_at, tally_bytes};
 
 use crate::numbers;
+use codec::output;
 use codec::refusal::Refusal;
-use codec::{output, signed};
 use std::array;
 use voting::settings::VotingConfig;
 use voting::table::{Fork, Table, Value};
@@ -82,11 +82,7 @@ fn value_at(bytes: &[u8], at: usize) -> Value
 {
     let present = numbers::byte_at(bytes, at);
     let n = numbers::u32_at(bytes, at + 1);
-    if present == 0 {
-        return None;
-    }
-    let z = signed::i32_of(n);
-    Some(z)
+    (present != 0).then_some(n.cast_signed())
 }
 
 fn slots_at(bytes: &[u8], at: usize) -> [Value; 9]
@@ -100,13 +96,10 @@ fn fork_at(bytes: &[u8], at: usize) -> Fork
     requires { at ≤ 3000 }
     ensures { result ≡ fork_at bytes.now at }
 {
-    let votes = value_at(bytes, at);
-    let start = value_at(bytes, at + 5);
-    let version = value_at(bytes, at + 10);
     Fork {
-        votes,
-        start,
-        version,
+        votes: value_at(bytes, at),
+        start: value_at(bytes, at + 5),
+        version: value_at(bytes, at + 10),
     }
 }
 
@@ -114,9 +107,10 @@ pub(crate) fn table_at(bytes: &[u8], at: usize) -> Table
     requires { at ≤ 2000 }
     ensures { result ≡ table_at bytes.now at }
 {
-    let ordinary = slots_at(bytes, at);
-    let fork = fork_at(bytes, at + 45);
-    Table { ordinary, fork }
+    Table {
+        ordinary: slots_at(bytes, at),
+        fork: fork_at(bytes, at + 45),
+    }
 }
 
 pub(crate) fn settings_at(bytes: &[u8], at: usize) -> VotingConfig
@@ -135,23 +129,20 @@ fn entry_at(bytes: &[u8], at: usize) -> Entry
     requires { at ≤ 3000 }
     ensures { result ≡ entry_at bytes.now at }
 {
-    let b = numbers::byte_at(bytes, at);
-    let id = signed::i8_of(b);
-    let count = numbers::u32_at(bytes, at + 1);
-    Entry { id, count }
+    Entry {
+        id: numbers::byte_at(bytes, at).cast_signed(),
+        count: numbers::u32_at(bytes, at + 1),
+    }
 }
 
 pub(crate) fn tally_at(bytes: &[u8], at: usize) -> Tally
     requires { at ≤ 2000 }
     ensures { result ≡ tally_at bytes.now at }
 {
-    let first = entry_at(bytes, at);
-    let second = entry_at(bytes, at + 5);
-    let third = entry_at(bytes, at + 10);
     Tally {
-        first,
-        second,
-        third,
+        first: entry_at(bytes, at),
+        second: entry_at(bytes, at + 5),
+        third: entry_at(bytes, at + 10),
     }
 }
 
@@ -169,12 +160,8 @@ fn put_value(out: &mut [u8], at: usize, v: Value)
     ensures back { Back value_at (value_bytes v) v }
 {
     match v {
-        None => {
-            put_marked(out, at, 0, 0);
-        }
-        Some(z) => {
-            put_marked(out, at, 1, signed::bits_i32(z));
-        }
+        None => put_marked(out, at, 0, 0),
+        Some(z) => put_marked(out, at, 1, z.cast_unsigned()),
     }
 }
 
@@ -193,12 +180,9 @@ fn put_fork(out: &mut [u8], at: usize, f: Fork)
     ensures put { Put 15 at (fork_bytes f) out.old out.new }
     ensures back { Back fork_at (fork_bytes f) f }
 {
-    let votes = f.votes;
-    let start = f.start;
-    let version = f.version;
-    put_value(out, at, votes);
-    put_value(out, at + 5, start);
-    put_value(out, at + 10, version);
+    put_value(out, at, f.votes);
+    put_value(out, at + 5, f.start);
+    put_value(out, at + 10, f.version);
 }
 
 pub(crate) fn put_table(out: &mut [u8], at: usize, t: Table)
@@ -206,10 +190,8 @@ pub(crate) fn put_table(out: &mut [u8], at: usize, t: Table)
     ensures put { Put 60 at (table_bytes t) out.old out.new }
     ensures back { Back table_at (table_bytes t) t }
 {
-    let ordinary = t.ordinary;
-    let fork = t.fork;
-    put_slots(out, at, ordinary);
-    put_fork(out, at + 45, fork);
+    put_slots(out, at, t.ordinary);
+    put_fork(out, at + 45, t.fork);
 }
 
 pub(crate) fn put_settings(out: &mut [u8], at: usize, g: VotingConfig)
@@ -228,7 +210,7 @@ fn put_entry(out: &mut [u8], at: usize, e: Entry)
     ensures put { Put 5 at (entry_bytes e) out.old out.new }
     ensures back { Back entry_at (entry_bytes e) e }
 {
-    put_marked(out, at, signed::bits_i8(e.id), e.count);
+    put_marked(out, at, e.id.cast_unsigned(), e.count);
 }
 
 pub(crate) fn put_tally(out: &mut [u8], at: usize, y: Tally)
@@ -236,10 +218,7 @@ pub(crate) fn put_tally(out: &mut [u8], at: usize, y: Tally)
     ensures put { Put 15 at (tally_bytes y) out.old out.new }
     ensures back { Back tally_at (tally_bytes y) y }
 {
-    let first = y.first;
-    let second = y.second;
-    let third = y.third;
-    put_entry(out, at, first);
-    put_entry(out, at + 5, second);
-    put_entry(out, at + 10, third);
+    put_entry(out, at, y.first);
+    put_entry(out, at + 5, y.second);
+    put_entry(out, at + 10, y.third);
 }

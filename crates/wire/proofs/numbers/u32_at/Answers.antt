@@ -1,7 +1,5 @@
-use Rattle.wire.specs.Numbers.{number_at}
-use mathlib.Core.Path.{◌∙◌}
+use Rattle.wire.proofs.Laws.{number_read}
 use Rattle.wire.proofs.numbers.u32_at.Goals as goal
 
 pub returns : goal.returns
-unfolding number_at
-returns c = c.joined.ensures.value ∙ rw (c.byte_at-a.ensures, c.byte_at-b.ensures, c.byte_at-c.ensures, c.byte_at-d.ensures)
+returns c = number_read _ _ _ c.bytes_at.ensures _ c.from_be_bytes.ensures

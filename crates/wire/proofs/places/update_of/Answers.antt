@@ -3,4 +3,4 @@ use Rattle.wire.proofs.places.update_of.Goals as goal
 
 pub returns : goal.returns
 unfolding update_at
-returns c = rw (c.section_at-rules.ensures, c.section_at-statuses.ensures)
+returns c = rw (c.section_at.ensures, c.section_at-2.ensures)

@@ -1,9 +1,9 @@
+use Rattle.std.proofs.Common.{rules, w8}
 use Rattle.wire.specs.Values.{entry_at}
-use mir.ValLaws.{to_z-of_z}
-use mir.Syntax.{w8}
-use borrow.Author.Rules.{rules}
+use Rattle.wire.proofs.Laws.{signed_is}
 use Rattle.wire.proofs.values.entry_at.Goals as goal
 
 pub returns : goal.returns
 unfolding entry_at
-returns c = rw (to_z-of_z w8 c.i8_of-id.result (search rules), c.i8_of-id.ensures, c.byte_at-b.ensures, c.u32_at-count.ensures)
+returns c = let z = c.cast_signed in
+    rw (signed_is w8 z.result (search rules) _ z.ensures, c.byte_at.ensures, c.u32_at.ensures)

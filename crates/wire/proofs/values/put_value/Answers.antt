@@ -1,10 +1,7 @@
 use mir.Val.{SFits}
 use Rattle.wire.proofs.Back.{absent-back, present-back}
-use Rattle.codec.specs.Signed.{bits_of}
-use mathlib.Core.Path.{ap, ◌∙◌}
-use mir.ValLaws.{to_z-of_z}
 use mir.Syntax.{w32}
-use Rattle.wire.proofs.Laws.{renamed, absent-bytes, number-bytes}
+use Rattle.wire.proofs.Laws.{renamed, absent-bytes, number-bytes, bits-are}
 use borrow.Author.Rules.{rules}
 use Rattle.wire.proofs.values.put_value.Goals as goal
 
@@ -20,6 +17,6 @@ returns-in-Some c = let z = c.in-Some.z in
     let e = c.in-Some.is in
     let f : SFits w32 z = search rules in
     record {
-      put = renamed (number-bytes _ z _ e (c.bits_i32.ensures ∙ ap (bits_of 32) (to_z-of_z w32 z f))) c.put_marked-in-Some.ensures;
+      put = renamed (number-bytes _ z _ e (bits-are w32 z f c.cast_unsigned.ensures)) c.put_marked-in-Some.ensures;
       back = present-back _ z e f;
     }

@@ -3,4 +3,4 @@ use Rattle.wire.proofs.values.table_at.Goals as goal
 
 pub returns : goal.returns
 unfolding table_at
-returns c = rw (c.slots_at-ordinary.ensures, c.fork_at-fork.ensures)
+returns c = rw (c.slots_at.ensures, c.fork_at.ensures)
