@@ -17,9 +17,6 @@ returns-then-too_short c =
 pub loop-init : goal.loop-init
 loop-init c = let a = c.args in begins a.run a.cells.now a.piece.now a.out.now _ c.too_short.ensures c.if-too_short.false
 
-pub take_record-took-requires : goal.take_record-took-requires
-take_record-took-requires c = let i = c.loop.invariant in (i.filled, i.longest)
-
 pub add-wrote-requires : goal.add-wrote-requires
 add-wrote-requires c = let l = c.loop in let a = c.args in line-room a.run a.cells.now a.piece.now a.out.now (length a.piece.now - l.counter) l.at l.wrote l.state l.cells l.out l.invariant (omega (arith, c.loop-test.true)) _ c.no_more.ensures c.if-no_more.false
 
