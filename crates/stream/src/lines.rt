@@ -13,8 +13,7 @@ use voting::table::{Fork, Value};
 pub fn write_head(out: &mut [u8]) -> Result<usize, Refusal>
     ensures { outcome result out.new ≡ writes head_line out.old }
 {
-    let text = *b"height version start votes\n";
-    hand_out(out, &text, 27)
+    hand_out(out, b"height version start votes\n")
 }
 
 // Writes the line of an accepted epoch.
@@ -23,7 +22,7 @@ pub fn write_epoch(height: u32, fork: Fork, out: &mut [u8]) -> Result<usize, Ref
 {
     let mut text = [0u8; 64];
     let n = put_epoch(&mut text, height, fork);
-    hand_out(out, &text, n)
+    hand_out(out, &text[..n])
 }
 
 // Writes the last line.
@@ -32,48 +31,41 @@ pub fn write_end(accepted: u32, refusal: u8, out: &mut [u8]) -> Result<usize, Re
 {
     let mut text = [0u8; 64];
     let n = put_end(&mut text, accepted, refusal);
-    hand_out(out, &text, n)
+    hand_out(out, &text[..n])
 }
 
-// A text that stands at the start of a scratch buffer, handed out whole or refused.
-fn hand_out(out: &mut [u8], text: &[u8], n: usize) -> Result<usize, Refusal>
-    requires { n ≤ length text.now }
-    ensures { outcome result out.new ≡ writes (take n text.now) out.old }
+// A text, handed out whole or refused.
+fn hand_out(out: &mut [u8], text: &[u8]) -> Result<usize, Refusal>
+    ensures { outcome result out.new ≡ writes text.now out.old }
 {
-    if out.len() < n {
+    if out.len() < text.len() {
         return Err(Refusal::OutputShort);
     }
-    output::put_bytes(out, 0, &text[..n]);
-    Ok(n)
+    output::put_bytes(out, 0, text);
+    Ok(text.len())
 }
 
 fn put_epoch(out: &mut [u8], height: u32, fork: Fork) -> usize
     ensures { Put (epoch_line height fork) line_most 0 result out.old out.new }
 {
-    let version = fork.version;
-    let start = fork.start;
-    let votes = fork.votes;
     let a = put_digits(out, 0, height);
-    let b = put(out, a, 32);
-    let c = put_column(out, b, version);
-    let d = put(out, c, 32);
-    let e = put_column(out, d, start);
-    let f = put(out, e, 32);
-    let g = put_column(out, f, votes);
-    put(out, g, 10)
+    let b = put(out, a, b' ');
+    let c = put_column(out, b, fork.version);
+    let d = put(out, c, b' ');
+    let e = put_column(out, d, fork.start);
+    let f = put(out, e, b' ');
+    let g = put_column(out, f, fork.votes);
+    put(out, g, b'\n')
 }
 
 fn put_end(out: &mut [u8], accepted: u32, refusal: u8) -> usize
     ensures { Put (end_line accepted refusal) 26 0 result out.old out.new }
 {
-    let a = put(out, 0, 101);
-    let b = put(out, a, 110);
-    let c = put(out, b, 100);
-    let d = put(out, c, 32);
-    let e = put_digits(out, d, accepted);
-    let f = put(out, e, 32);
-    let g = put_digits(out, f, refusal as u32);
-    put(out, g, 10)
+    output::put_bytes(out, 0, b"end ");
+    let a = put_digits(out, 4, accepted);
+    let b = put(out, a, b' ');
+    let c = put_digits(out, b, u32::from(refusal));
+    put(out, c, b'\n')
 }
 
 fn put_column(out: &mut [u8], at: usize, value: Value) -> usize
@@ -81,7 +73,7 @@ fn put_column(out: &mut [u8], at: usize, value: Value) -> usize
     ensures { Put (column value) 11 at result out.old out.new }
 {
     match value {
-        None => put(out, at, 45),
+        None => put(out, at, b'-'),
         Some(x) => put_decimal(out, at, x),
     }
 }
@@ -90,11 +82,8 @@ fn put_decimal(out: &mut [u8], at: usize, x: i32) -> usize
     requires { at ≤ 900 }
     ensures { Put (decimal x) 11 at result out.old out.new }
 {
-    if x < 0 {
-        let k = put(out, at, 45);
-        return put_digits(out, k, (!x) as u32 + 1);
-    }
-    put_digits(out, at, x as u32)
+    let start = if x < 0 { put(out, at, b'-') } else { at };
+    put_digits(out, start, x.unsigned_abs())
 }
 
 fn put_digits(out: &mut [u8], at: usize, n: u32) -> usize

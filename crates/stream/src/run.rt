@@ -205,10 +205,7 @@ impl Print {
     {
         match self {
             Print::Nothing => Ok(0),
-            Print::Epoch(e) => {
-                let fork = e.fork;
-                lines::write_epoch(e.height, fork, out)
-            }
+            Print::Epoch(e) => lines::write_epoch(e.height, e.fork, out),
             Print::End(e) => lines::write_end(e.accepted, e.refusal, out),
         }
     }
@@ -224,9 +221,9 @@ fn take_record(run: Run, cells: &mut [u8], piece: &[u8]) -> Took
         return taken_all(run, piece.len());
     }
     let filled = run.filled;
-    let used = taken(run, &cells[0..filled], piece);
-    output::put_bytes(cells, filled, &piece[0..used]);
-    on_bytes(run, &cells[0..filled + used], used)
+    let used = taken(run, &cells[..filled], piece);
+    output::put_bytes(cells, filled, &piece[..used]);
+    on_bytes(run, &cells[..filled + used], used)
 }
 
 fn taken_all(run: Run, used: usize) -> Took
@@ -243,11 +240,7 @@ fn taken_all(run: Run, used: usize) -> Took
 fn taken(run: Run, bytes: &[u8], piece: &[u8]) -> usize
     ensures { result ≡ length (take (missing (end_at run.replay.settings bytes.now)) piece.now) }
 {
-    let most = missing_of(run, bytes);
-    if most < piece.len() {
-        return most;
-    }
-    piece.len()
+    missing_of(run, bytes).min(piece.len())
 }
 
 // At least how many bytes of a record are missing.
@@ -279,13 +272,11 @@ fn on_bytes(run: Run, bytes: &[u8], used: usize) -> Took
 fn waits(run: Run, filled: usize, used: usize) -> Took
     ensures { result ≡ waits_with run filled used }
 {
-    let replay = run.replay;
     Took {
         run: Run {
-            replay,
-            accepted: run.accepted,
             filled,
             over: false,
+            ..run
         },
         used,
         print: Print::Nothing,
@@ -304,16 +295,18 @@ fn after_replay(run: Run, height: u32, used: usize, x: Result<Replay, Rejection>
 fn goes_on(run: Run, height: u32, used: usize, replay: Replay) -> Took
     ensures { result ≡ after_replay run height used (Ok replay) }
 {
-    let fork = replay.table.fork;
     Took {
         run: Run {
             replay,
-            accepted: std::num::wrapping_add_u32(run.accepted, 1),
+            accepted: run.accepted.wrapping_add(1),
             filled: 0,
             over: false,
         },
         used,
-        print: Print::Epoch(EpochPrint { height, fork }),
+        print: Print::Epoch(EpochPrint {
+            height,
+            fork: replay.table.fork,
+        }),
     }
 }
 
@@ -330,12 +323,10 @@ fn ends_by(run: Run, used: usize, n: u8) -> Took
 fn end_run(run: Run) -> Run
     ensures { result ≡ ended run }
 {
-    let replay = run.replay;
     Run {
-        replay,
-        accepted: run.accepted,
         filled: 0,
         over: true,
+        ..run
     }
 }
 

@@ -42,13 +42,6 @@ cond_no true x y e = absurd (true≢false e)
 pub took : (k : ℕ) (l : List ℕ) → k ≤ length l → k ≡ length (take k l)
 took k l h = sym (length-take-le k l h)
 
-module _ (n k : ℕ) (l : List ℕ) (q : n ≡ k) where
-  pub took-short : n < length l → n ≡ length (take k l)
-  took-short h = q ∙ took k l (omega (arith, q, h))
-
-  pub took-long : length l ≤ n → length l ≡ length (take k l)
-  took-long h = ap length (sym (take_all k l (omega (arith, q, h))))
-
 -- ---- what a run prints from here on
 
 pub ahead-over : (r : Run) (cells input : List ℕ) → r.over ≡ true → ahead r cells input ≡ []
@@ -148,26 +141,21 @@ module _ (r : Run) (cells piece : List ℕ) where
     bytes-long = let t = took r.filled cells h in omega (arith, t, length-append (held r cells) new)
 
     -- the code's number of bytes that are taken
-    module _ (used : ℕ) (u : used ≡ length (take (missing (end_at r.replay.settings (take (r.filled - 0) cells))) piece)) where
-      used-is : used ≡ length new
-      used-is = let z : r.filled - 0 ≡ r.filled = omega arith in u ∙ ap (λ (k : ℕ). length (take (missing (end_at r.replay.settings (take k cells))) piece)) z
-
+    module _ (used : ℕ) (used-is : used ≡ length new) where
       pub used-inside : used ≤ length piece
       used-inside = omega (arith, used-is, (taken-most (missing (end_at r.replay.settings (held r cells))) piece).1)
 
       pub used-fits : r.filled + used ≤ length cells
       used-fits = omega (arith, used-is, new-fits)
 
-      pub room-took : r.over ≡ false → (after : List ℕ) → after ≡ sets cells r.filled (take (used - 0) piece)
-          → (f : Took) → f ≡ on_bytes r (take (r.filled + used - 0) after) used → (f ≡ took_of r cells piece) × (after ≡ took_cells r cells piece)
+      pub room-took : r.over ≡ false → (after : List ℕ) → after ≡ sets cells r.filled (take used piece)
+          → (f : Took) → f ≡ on_bytes r (take (r.filled + used) after) used → (f ≡ took_of r cells piece) × (after ≡ took_cells r cells piece)
       room-took on after q f e =
           let k = missing (end_at r.replay.settings (held r cells)) in
-          let z : used - 0 ≡ length new = omega (arith, used-is) in
-          let same : take (used - 0) piece ≡ new = ap (λ (n : ℕ). take n piece) z ∙ sym (taken-self k piece) in
-          let is : after ≡ held r cells ++ new ++ drop (r.filled + length new) cells = q ∙ ap (sets cells r.filled) same ∙ sets-eq new cells r.filled new-fits in
-          let y : r.filled + used - 0 ≡ r.filled + length new = omega (arith, used-is) in (
+          let same : take used piece ≡ new = ap (λ (n : ℕ). take n piece) used-is ∙ sym (taken-self k piece) in
+          let is : after ≡ held r cells ++ new ++ drop (r.filled + length new) cells = q ∙ ap (sets cells r.filled) same ∙ sets-eq new cells r.filled new-fits in (
             e
-                ∙ ap (λ (n : ℕ). on_bytes r (take n after) used) y
+                ∙ ap (λ (n : ℕ). on_bytes r (take (r.filled + n) after) used) used-is
                 ∙ ap (λ (x : List ℕ). on_bytes r x used) (stand after is)
                 ∙ ap (on_bytes r bytes) used-is
                 ∙ sym (took-on on),

@@ -1,4 +1,4 @@
-use Rattle.stream.proofs.Laws.Run.{over-took, used-inside, used-fits, room-took}
+use Rattle.stream.proofs.Laws.Run.{took, over-took, used-inside, used-fits, room-took}
 use Rattle.std.proofs.Common.{rules}
 use Rattle.stream.proofs.run.take_record.Goals as goal
 
@@ -9,13 +9,16 @@ returns-then-run c = record {
 }
 
 pub slice_bounds-put_bytes-end : goal.slice_bounds-put_bytes-end
-slice_bounds-put_bytes-end c = used-inside c.args.run c.args.cells.now c.args.piece.now c.requires.0 c.requires.1 _ c.taken-used.ensures
+slice_bounds-put_bytes-end c = took _ _ (used-inside c.args.run c.args.cells.now c.args.piece.now c.requires.0 c.requires.1 _ c.taken-used.ensures)
 
 pub overflow_add-filled : goal.overflow_add-filled
 overflow_add-filled c = let h = used-fits c.args.run c.args.cells.now c.args.piece.now c.requires.0 c.requires.1 _ c.taken-used.ensures in search rules
 
 pub slice_bounds-on_bytes-end : goal.slice_bounds-on_bytes-end
 slice_bounds-on_bytes-end c = let h = used-fits c.args.run c.args.cells.now c.args.piece.now c.requires.0 c.requires.1 _ c.taken-used.ensures in search rules
+
+pub slice_bounds-on_bytes-end-2 : goal.slice_bounds-on_bytes-end-2
+slice_bounds-on_bytes-end-2 c = let h = used-fits c.args.run c.args.cells.now c.args.piece.now c.requires.0 c.requires.1 _ c.taken-used.ensures in took _ _ (search rules)
 
 pub returns : goal.returns
 returns c = record {
