@@ -118,21 +118,32 @@ fn no_entries() -> Table
 fn place_of(key0: u8, key1: u8) -> usize
     ensures { (result ≡ place_of key0 key1) × (result ≤ 12) }
 {
-    match (key0, key1) {
-        (0, 1..=9) => (key1 - 1) as usize,
-        (0, 121..=123) => (key1 - 112) as usize,
-        _ => 12,
+    if key0 != 0 {
+        return 12;
     }
+    if key1 < 1 {
+        return 12;
+    }
+    if key1 <= 9 {
+        return (key1 - 1) as usize;
+    }
+    if key1 < 121 {
+        return 12;
+    }
+    if 123 < key1 {
+        return 12;
+    }
+    (key1 - 112) as usize
 }
 
 // A value of four bytes as an entry, any other as none.
 fn slot_in(v: &[u8]) -> Value
     ensures { result ≡ slot_in v.now }
 {
-    match *v {
-        [a, b, c, d] => parameters::number_in(a, b, c, d),
-        _ => None,
+    if v.len() != 4 {
+        return None;
     }
+    parameters::number_in(v[0], v[1], v[2], v[3])
 }
 
 fn table_of(s: [Value; 13]) -> Table
