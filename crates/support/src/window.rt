@@ -1,7 +1,7 @@
 // A running window over the last headers, and the support of each id in it. docs/RULES.md, "Support".
 ghost use Rattle.std.specs.Prelude.{◌≡◌, ◌+◌, ◌%◌, ◌<◌, ◌≤◌, ◌&&◌, ◌++◌, length, drop, replicate, if◌then◌else◌, ◌==◌, nat_eq, slice_index};
 ghost use Rattle.voting.specs.Header.{check_header_votes};
-ghost use Rattle.support.specs.Window.{cell_of, left, check_room, empty, check_new, new_of, added, replaced, entered, more_held, place_after, onward, check_put, put_of};
+ghost use Rattle.support.specs.Window.{cell_of, left, check_room, empty, check_new, new_of, added, one_more, one_less, replaced, entered, more_held, place_after, onward, check_put, put_of};
 ghost use Rattle.support.specs.Kept.{SupportKept};
 
 use codec::refusal::Refusal;
@@ -12,10 +12,6 @@ pub const LENGTH_MOST: u16 = 4096;
 
 // The cells of the supports, one for each byte; those of the headers stand behind them.
 pub const SUPPORTS: usize = 256;
-
-const ONE_MORE: u16 = 1;
-
-const ONE_LESS: u16 = 65535;
 
 // How many headers it spans and how many it holds, and the place of the oldest. Its cells go with it.
 #[derive(Clone, Copy)]
@@ -51,7 +47,7 @@ impl Window {
 fn check_new(length: u32, room: usize) -> Result<(), Refusal>
     ensures { result ≡ check_new length room }
 {
-    if (1 <= length) & (length <= (LENGTH_MOST as u32)) {
+    if (1..=u32::from(LENGTH_MOST)).contains(&length) {
         return check_room(empty(length as u16), room);
     }
     Err(Refusal::WindowLengthOutside)
@@ -103,7 +99,7 @@ fn check_room(w: Window, room: usize) -> Result<(), Refusal>
 fn cell_of(place: u16) -> usize
     ensures { result ≡ cell_of place }
 {
-    SUPPORTS + 3 * (place as usize)
+    SUPPORTS + 3 * usize::from(place)
 }
 
 fn empty(length: u16) -> Window
@@ -143,42 +139,37 @@ fn replace(cells: &mut [u16], at: usize, id: u8)
     ensures { cells.new ≡ replaced cells.old at id }
 {
     let old = (cells[at] % 256) as u8;
-    add(cells, old, ONE_LESS);
-    cells[at] = id as u16;
-    add(cells, id, ONE_MORE);
+    leave(cells, old);
+    cells[at] = u16::from(id);
+    join(cells, id);
 }
 
-// Adds a number to the support of an id. It stores in any case: that is quicker than a test for 0.
-fn add(cells: &mut [u16], id: u8, n: u16)
+// One less in the support of an id; 0 is no vote. It stores in any case: that is quicker than a test for 0. So `join`.
+fn leave(cells: &mut [u16], id: u8)
     requires { 256 ≤ length cells.old }
-    ensures { cells.new ≡ added cells.old id n }
+    ensures { cells.new ≡ added cells.old id one_less }
 {
-    let i = id as usize;
-    cells[i] = counted(cells[i], id, n);
+    let i = usize::from(id);
+    cells[i] = cells[i].wrapping_sub(u16::from(id != 0));
 }
 
-// A support with a number added, for an id; 0 is no vote.
-fn counted(support: u16, id: u8, n: u16) -> u16
-    ensures { result ≡ (if nat_eq id 0 then support else (support + n) % 65536) }
+// One more.
+fn join(cells: &mut [u16], id: u8)
+    requires { 256 ≤ length cells.old }
+    ensures { cells.new ≡ added cells.old id one_more }
 {
-    if id == 0 {
-        support
-    } else {
-        std::num::wrapping_add_u16(support, n)
-    }
+    let i = usize::from(id);
+    cells[i] = cells[i].wrapping_add(u16::from(id != 0));
 }
 
 fn onward(w: Window) -> Window
     requires { w.oldest < w.length }
     ensures { result ≡ onward w }
 {
-    let length = w.length;
-    let held = more_held(w.held, length);
-    let oldest = place_after(w.oldest, length);
     Window {
-        length,
-        held,
-        oldest,
+        held: more_held(w.held, w.length),
+        oldest: place_after(w.oldest, w.length),
+        ..w
     }
 }
 

@@ -1,7 +1,11 @@
 -- The refusals of the calls, and what the calls leave, refused or not.
 -- Assumes nothing.
-use Rattle.std.proofs.Common.{◌≡◌, ℕ, ◌+◌, ◌%◌, ◌<◌, ◌≤◌, Bool, true, false, cond, ◌&&◌, eqb, ltb, leb, List, [], ◌∷◌, ◌++◌, length, get_or, drop, set, replicate, sym, refl, ap, ◌∙◌, arith, ltb-true, le-ltb, lt-ltb, eq-eqb, ne_eqb, eqb-true, le-leb, leb-true}
+use Rattle.std.proofs.Common.{◌≡◌, ℕ, ◌+◌, ◌%◌, ◌<◌, ◌≤◌, Bool, true, false, cond, ◌&&◌, eqb, ltb, leb, List, [], ◌∷◌, ◌++◌, length, get_or, drop, set, replicate, sym, refl, ap, ◌∙◌, arith, ltb-true, le-ltb, lt-ltb, eq-eqb, ne_eqb, eqb-true, le-leb, leb-true, is_le, is_lt, nat_cmp}
 use lib.Seq.{set-get_or}
+use Rattle.std.proofs.lemmas.Bool.Decides.{nat_tests}
+use mir.Val.{bool_byte}
+use mathlib.Core.Bool.{not}
+use Prim.Native.Nat.{◌-◌, ◌*◌}
 use Rattle.std.specs.Prelude.{Ok, Err}
 use Rattle.codec.specs.declared.refusal.Refusal.{Refusal}
 use Rattle.codec.specs.declared.refusal.Refusal.TheVariants.{OutputShort, WindowLengthOutside}
@@ -15,13 +19,7 @@ use Rattle.support.specs.Window.{length_most, cell_of, left, check_room, empty, 
 
 -- ---- the cells
 
-pub counted_none : (support id n : ℕ) → id ≡ 0 → support ≡ cond (eqb id 0) support ((support + n) % 65536)
-counted_none support id n e = rw e
-
-pub counted-vote : (support id n x : ℕ) → (id ≡ 0 → ⊥) → x ≡ (support + n) % 65536 → x ≡ cond (eqb id 0) support ((support + n) % 65536)
-counted-vote support id n x h e = rw (ne_eqb id 0 h) e
-
-pub added_is : (cells : List ℕ) (id n x : ℕ) → x ≡ cond (eqb id 0) (get_or cells id 0) ((get_or cells id 0 + n) % 65536) → set cells id x ≡ added cells id n
+added_is : (cells : List ℕ) (id n x : ℕ) → x ≡ cond (eqb id 0) (get_or cells id 0) ((get_or cells id 0 + n) % 65536) → set cells id x ≡ added cells id n
 unfolding added
 added_is cells id n x e = rw e (go (eqb id 0))
   where
@@ -29,14 +27,29 @@ added_is cells id n x e = rw e (go (eqb id 0))
     go true = set-get_or cells id 0
     go false = refl
 
+-- one less and one more, of no vote none; how many are taken off is read from `one_less`
+pub left_is : (cells : List ℕ) (id i b : ℕ) → i ≡ id → get_or cells i 0 < 65536 → b ≡ bool_byte (not (eqb id 0)) * ((65536 - one_less) % 65536) → set cells i ((get_or cells i 0 + (65536 - b)) % 65536) ≡ added cells id one_less
+left_is cells id i b p f e = rw p (added_is cells id one_less _ (go (eqb id 0) e))
+  where
+    go : (t : Bool) → b ≡ bool_byte (not t) * ((65536 - one_less) % 65536) → (get_or cells id 0 + (65536 - b)) % 65536 ≡ cond t (get_or cells id 0) ((get_or cells id 0 + one_less) % 65536)
+    go true e = let h : get_or cells id 0 < 65536 = rw p at f in omega arith
+    go false e = omega arith
+
+pub joined_is : (cells : List ℕ) (id i b : ℕ) → i ≡ id → get_or cells i 0 < 65536 → b ≡ bool_byte (not (eqb id 0)) → set cells i ((get_or cells i 0 + b) % 65536) ≡ added cells id one_more
+joined_is cells id i b p f e = rw p (added_is cells id one_more _ (go (eqb id 0) e))
+  where
+    go : (t : Bool) → b ≡ bool_byte (not t) → (get_or cells id 0 + b) % 65536 ≡ cond t (get_or cells id 0) ((get_or cells id 0 + one_more) % 65536)
+    go true e = let h : get_or cells id 0 < 65536 = rw p at f in omega arith
+    go false e = omega arith
+
 -- no byte enters and none leaves
 replaced-none : (cells : List ℕ) (at id : ℕ) → id ≡ 0 → get_or cells at 0 ≡ 0 → replaced cells at id ≡ cells
 unfolding replaced added
 replaced-none cells at id e f = rw (e, f) (ap (set cells at) (sym f) ∙ set-get_or cells at 0)
 
-pub replaced-is : (cells : List ℕ) (at id : ℕ) (a b : List ℕ) → a ≡ added cells (get_or cells at 0 % 256) one_less → b ≡ added (set a at id) id one_more → b ≡ replaced cells at id
+pub replaced-is : (cells : List ℕ) (at id i : ℕ) (a b : List ℕ) → i ≡ id → a ≡ added cells (get_or cells at 0 % 256) one_less → b ≡ added (set a at i) id one_more → b ≡ replaced cells at id
 unfolding replaced
-replaced-is cells at id a b e f = rw e at f
+replaced-is cells at id i a b p e f = rw (p, e) at f
 
 pub entered-is : (cells : List ℕ) (at : ℕ) (votes a b c : List ℕ) → a ≡ replaced cells at (get_or votes 0 0) → b ≡ replaced a (at + 1) (get_or votes 1 0) → c ≡ replaced b (at + 2) (get_or votes 2 0) → c ≡ entered cells at votes
 unfolding entered
@@ -131,6 +144,13 @@ pub place_inside : (w : Window) (room at : ℕ) → Room w room → at ≡ cell_
 place_inside w room at r e = let p = r.place in let n = r.enough in (omega arith, omega arith)
 
 -- ---- a new window
+
+-- the test of the length
+le_is : (a b : ℕ) → leb a b ≡ is_le (nat_cmp a b)
+le_is a b = grind (arith, nat_tests)
+
+pub length-test : (n a b : ℕ) (t x : Bool) → a ≡ 1 → b ≡ length_most → x ≡ false → t ≡ (is_le (nat_cmp a n) && cond x (is_lt (nat_cmp n b)) (is_le (nat_cmp n b))) → leb 1 n && leb n length_most ≡ t
+length-test n a b t x p q r e = rw (le_is 1 n, le_is n length_most) (sym (rw (p, q, r) at e))
 
 module _ (n room : ℕ) where
   pub length-inside : leb 1 n && leb n length_most ≡ true → (w : Window) → w ≡ empty n → (r : Check) → r ≡ check_room w room → r ≡ check_new n room
