@@ -13,7 +13,7 @@ use Rattle.codec.specs.Output.{outcome, writes, written}
 use Rattle.voting.specs.Settings.{mainnet}
 use Rattle.ports.specs.declared.Input.{Input}
 use Rattle.ports.specs.declared.Output.{Output}
-use Rattle.ports.proofs.Laws.{text-fits, text-sent}
+use Rattle.ports.proofs.Laws.{text-inside, text-fits}
 use Rattle.ports.specs.Ports.{unread, unwritten, read, ended, broken, came, wrote, sent, read-on, wrote_on, read_none, wrote_none}
 use Rattle.stream.specs.declared.run.Run.{Run}
 use Rattle.stream.specs.declared.run.Fed.{Fed}
@@ -22,11 +22,22 @@ use Rattle.stream.specs.Run.{begun, ahead, longest_record, too_short, Ready, end
 use Rattle.stream.specs.Driven.{mainnet_start, replay_prints, Begins}
 use Rattle.stream.proofs.Laws.Added.{never, written_is, front-is}
 use Rattle.stream.proofs.Laws.Run.{ahead-over}
-use Rattle.stream.proofs.Laws.Feed.{end_line_lem, fail-line, finishes}
+use Rattle.stream.proofs.Laws.Feed.{ready-enough, end_line_lem, fail-line, finishes}
 use Rattle.replay_io.specs.declared.Done.{Done}
 use Rattle.replay_io.specs.Replays.{Moves, IsEmpty, most, Feeding, Reading}
 
 -- ---- a text that was written into the buffer and is handed over
+
+-- the part of the buffer that is handed over
+module _ (text out out' : List ℕ) (q : out' ≡ written text out) (n : ℕ) (e : n ≡ length text) where
+  pub handed-text : take n out' ≡ text
+  handed-text = let z : n ≡ n - 0 = omega arith in ap (λ (k : ℕ). take k out') z ∙ text-fits text out out' q n e
+
+  pub handed-inside : n ≤ length out'
+  handed-inside = text-inside text out out' q n e
+
+  pub handed-booked : (o : Output) (b : Bool) (o' : Output) → o' ≡ sent b (wrote o (take n out')) → o' ≡ sent b (wrote o text)
+  handed-booked o b o' s = s ∙ ap (λ (x : List ℕ). sent b (wrote o x)) handed-text
 
 -- the first line
 module _ (out : List ℕ) (h : line_most ≤ length out) (w : Result ℕ Refusal) (out' : List ℕ) (q : outcome w out' ≡ writes head_line out) where
@@ -34,40 +45,53 @@ module _ (out : List ℕ) (h : line_most ≤ length out) (w : Result ℕ Refusal
   unfolding head_line
   room = omega (arith, h)
 
-  pub head_never : (e : Refusal) → w ≡ Err e → ⊥
-  head_never = never head_line out room w out' q
+  pub head-passes : IsOk w
+  head-passes = go w refl
+    where
+      go : (x : Result ℕ Refusal) → w ≡ x → IsOk x
+      go (Ok n) r = refl
+      go (Err e) r = absurd (never head_line out room w out' q e r)
 
   module _ (n : ℕ) (r : w ≡ Ok n) where
     pub head-inside : n ≤ length out
     head-inside = omega (arith, room, written_is head_line out room w out' q n r)
 
-    pub head-sent : (o : Output) (b : Bool) (o' : Output) → o' ≡ sent b (wrote o (take (n - 0) out')) → o' ≡ sent b (wrote o head_line)
-    head-sent o b o' e =
-        let z : n - 0 ≡ n = omega arith in
-        e ∙ ap (λ (k : ℕ). sent b (wrote o (take k out'))) z ∙ ap (λ (x : List ℕ). sent b (wrote o x)) (front-is head_line out room w out' q n r)
+    pub head-is : take n out' ≡ head_line
+    head-is = front-is head_line out room w out' q n r
 
-    pub head-is : take (n - 0) out' ≡ head_line
-    head-is = let z : n - 0 ≡ n = omega arith in ap (λ (k : ℕ). take k out') z ∙ front-is head_line out room w out' q n r
+    pub head-sent : (o : Output) (b : Bool) (o' : Output) → o' ≡ sent b (wrote o (take n out')) → o' ≡ sent b (wrote o head_line)
+    head-sent o b o' e = e ∙ ap (λ (x : List ℕ). sent b (wrote o x)) head-is
 
--- the last line: a call that is refused writes nothing
-abbrev pub count : Result Fed Refusal → ℕ
+-- the last line
+abbrev count : Result Fed Refusal → ℕ
 count (Ok fed) = fed.wrote
 count (Err e) = 0
 
-pub last-wrote : (r : Run) (cells : List ℕ) (k room : ℕ) (y : Result Fed Refusal) → y ≡ fed_of (last_of r cells k room) → count y ≡ length (last_of r cells k room).text
-unfolding last_of last_by
-last-wrote r cells k room y q = ap count q ∙ go (too_short r (length cells) room) r.over
-  where
-    line : After
-    line = record { check = passed; run = run_ended r; cells = cells; used = 0; text = end_line r.accepted k }
+module _ (r : Run) (cells : List ℕ) (k : ℕ) (out : List ℕ) (y : Result Fed Refusal) (q : y ≡ fed_of (last_of r cells k (length out))) where
+  abbrev line : After
+  line = record { check = passed; run = run_ended r; cells = cells; used = 0; text = end_line r.accepted k }
 
-    ends : Bool → Bool → After
-    ends short over = cond short (stands (Err OutputShort) r cells) (cond over (stands passed r cells) line)
+  abbrev ends : Bool → Bool → After
+  ends short over = cond short (stands (Err OutputShort) r cells) (cond over (stands passed r cells) line)
 
-    go : (short over : Bool) → count (fed_of (ends short over)) ≡ length (ends short over).text
-    go true over = refl
-    go false true = refl
-    go false false = refl
+  pub last-passes : Ready r cells → line_most ≤ length out → IsOk y
+  unfolding last_of last_by
+  last-passes ready place = subst IsOk (sym q) (go (too_short r (length cells) (length out)) r.over (ready-enough r cells (length out) ready place))
+    where
+      go : (short over : Bool) → short ≡ false → IsOk (fed_of (ends short over))
+      go true over e = absurd (true≢false e)
+      go false true e = refl
+      go false false e = refl
+
+  module _ (fed : Fed) (f : y ≡ Ok fed) where
+    pub last-wrote : fed.wrote ≡ length (last_of r cells k (length out)).text
+    unfolding last_of last_by
+    last-wrote = ap count (sym f ∙ q) ∙ go (too_short r (length cells) (length out)) r.over
+      where
+        go : (short over : Bool) → count (fed_of (ends short over)) ≡ length (ends short over).text
+        go true over = refl
+        go false true = refl
+        go false false = refl
 
 -- a bound by a length that stays
 pub still-above : (x m n : ℕ) → n ≡ m → x ≤ m → x ≤ n
@@ -117,11 +141,11 @@ module _ (T : List ℕ → Type 0) (run : Run) (cells piece : List ℕ) (output 
       pub feeding-inside : at ≤ length piece → at + fed.used ≤ length piece
       feeding-inside h = omega (arith, h, p.inside, used-is, ap length rest-is, length-drop at piece)
 
-      pub feeding-on : (b : Bool) (o₂ : Output) → o₂ ≡ sent b (wrote o (take (fed.wrote - 0) out₂)) → (A T' : List ℕ → Type 0) → (b ≡ false → A (take (fed.wrote - 0) out₂)) → ((s u : List ℕ) → T s → A u → T' (s ++ u)) → Feeding T' run cells piece output (at + fed.used) fed.run cells₂ b o₂
+      pub feeding-on : (b : Bool) (o₂ : Output) → o₂ ≡ sent b (wrote o (take fed.wrote out₂)) → (A T' : List ℕ → Type 0) → (b ≡ false → A (take fed.wrote out₂)) → ((s u : List ℕ) → T s → A u → T' (s ++ u)) → Feeding T' run cells piece output (at + fed.used) fed.run cells₂ b o₂
       feeding-on b o₂ e A T' h join =
           let t = a.text in
           let s = g.text in
-          let went : o₂ ≡ sent b (wrote o t) = text-sent t out out₂ is-out fed.wrote (ap (λ (f : Fed). f.wrote) is-fed) o b o₂ e in
+          let went : o₂ ≡ sent b (wrote o t) = handed-booked t out out₂ is-out fed.wrote (ap (λ (f : Fed). f.wrote) is-fed) o b o₂ e in
           let same : ahead a.run a.cells ≡ ahead fed.run cells₂ = ap (λ (f : Fed). ahead f.run a.cells) (sym is-fed) ∙ ap (ahead fed.run) (sym is-cells) in
           record {
             text = s ++ t;
@@ -139,7 +163,7 @@ module _ (T : List ℕ → Type 0) (run : Run) (cells piece : List ℕ) (output 
                 ∙ ap (λ (k : ℕ). s ++ t ++ ahead a.run a.cells (drop (at + k) piece ++ more)) (sym used-is)
                 ∙ ap (λ (f : List ℕ → List ℕ). s ++ t ++ f (drop (at + fed.used) piece ++ more)) same;
             ready = subst (λ (f : Fed). Ready f.run cells₂) (sym is-fed) (subst (Ready a.run) (sym is-cells) p.ready);
-            took = λ f. join s t (g.took refl) (subst A (text-fits t out out₂ is-out fed.wrote (ap (λ (f : Fed). f.wrote) is-fed)) (h f));
+            took = λ f. join s t (g.took refl) (subst A (handed-text t out out₂ is-out fed.wrote (ap (λ (f : Fed). f.wrote) is-fed)) (h f));
           }
 
 -- before a call: the piece was fed up to a position, and the buffers are as long as they were
@@ -166,7 +190,7 @@ module _ (T : List ℕ → Type 0) (run : Run) (cells₀ piece : List ℕ) (outp
       pub going-inside : at + fed.used ≤ length piece
       going-inside = feeding-inside T run cells₀ piece output at r cells o g.feeding out g.room x.1.1.1 fed (sym x.0 ∙ f) cells₂ x.1.0 out₂ x.1.1.0 g.inside
 
-      module _ (b : Bool) (o₂ : Output) (e : o₂ ≡ sent b (wrote o (take (fed.wrote - 0) out₂))) (A T' : List ℕ → Type 0) (h : b ≡ false → A (take (fed.wrote - 0) out₂))
+      module _ (b : Bool) (o₂ : Output) (e : o₂ ≡ sent b (wrote o (take fed.wrote out₂))) (A T' : List ℕ → Type 0) (h : b ≡ false → A (take fed.wrote out₂))
           (join : (s u : List ℕ) → T s → A u → T' (s ++ u)) where
         fed-on : Feeding T' run cells₀ piece output (at + fed.used) fed.run cells₂ b o₂
         fed-on = feeding-on T run cells₀ piece output at r cells o g.feeding out g.room x.1.1.1 fed (sym x.0 ∙ f) cells₂ x.1.0 out₂ x.1.1.0 b o₂ e A T' h join
@@ -351,7 +375,7 @@ module _ (G T : List ℕ → Type 0) (from to left : ℕ) (r : Run) (cells : Lis
         })
 
     -- it brought bytes, and they were fed
-    module _ (f : failed ≡ false) (some : n ≡ 0 → ⊥) (at : ℕ) (r' : Run) (cells' : List ℕ) (b : Bool) (o' : Output) (p : Feeding B r cells (take (n - 0) buf) o at r' cells' b o') where
+    module _ (f : failed ≡ false) (some : n ≡ 0 → ⊥) (at : ℕ) (r' : Run) (cells' : List ℕ) (b : Bool) (o' : Output) (h : Feeding B r cells (take n buf) o at r' cells' b o') where
       read_is : i' ≡ read (unread from) (g.bytes ++ take n buf)
       unfolding came
       read_is =
@@ -360,12 +384,6 @@ module _ (G T : List ℕ → Type 0) (from to left : ℕ) (r : Run) (cells : Lis
           ∙ ap (λ (x : Bool). cond x (ended i) (read i (take n buf))) (ne_eqb n 0 some)
           ∙ ap (λ (x : Input). read x (take n buf)) g.is-input
           ∙ read-on (unread from) g.bytes (take n buf)
-
-      piece_is : take (n - 0) buf ≡ take n buf
-      piece_is = let z : n - 0 ≡ n = omega arith in ap (λ (k : ℕ). take k buf) z
-
-      h : Feeding B r cells (take n buf) o at r' cells' b o'
-      h = subst (λ (x : List ℕ). Feeding B r cells x o at r' cells' b o') piece_is p
 
       goes : (more : List ℕ) → replay_prints ((g.bytes ++ take n buf) ++ more) ≡ (g.text ++ h.text) ++ ahead r' cells' (drop at (take n buf) ++ more)
       goes more =
@@ -402,9 +420,9 @@ module _ (G T : List ℕ → Type 0) (from to left : ℕ) (r : Run) (cells : Lis
       pub ends-over : b ≡ false → r'.over ≡ true → (d : Done) → d ≡ done_by i' o' false false false false → Moves G' T' E from to d × (d.refusal ≡ None)
       ends-over q e = ends-early false q (λ u. e)
 
-      pub reading-on : b ≡ false → length (take (n - 0) buf) ≤ at → r'.over ≡ false → 0 < left → n ≤ length buf → (less : ℕ) → less ≡ left - 1 → Reading G' T' from to less r' cells' i' o'
+      pub reading-on : b ≡ false → length (take n buf) ≤ at → r'.over ≡ false → 0 < left → n ≤ length buf → (less : ℕ) → less ≡ left - 1 → Reading G' T' from to less r' cells' i' o'
       reading-on q l on turns fits less is-less =
-          let e : drop at (take n buf) ≡ [] = drop_of_length-le (take n buf) {i = at} (omega (arith, l, ap length piece_is)) in
+          let e : drop at (take n buf) ≡ [] = drop_of_length-le (take n buf) {i = at} l in
           record {
             bytes = g.bytes ++ take n buf;
             text = g.text ++ h.text;
@@ -428,14 +446,9 @@ module _ (G T : List ℕ → Type 0) (from to left : ℕ) (r : Run) (cells : Lis
 
 -- ---- the buffers
 
--- a beginning that is not empty
-pub front-some : (n : ℕ) (l : List ℕ) → n ≤ length l → 0 < n → 0 < length (take (n - 0) l)
-front-some n l h some = let z : n - 0 ≤ length l = omega (arith, h) in omega (arith, length-take-le (n - 0) l z, some)
-
-pub arrays-long : (cells buf out : List ℕ) (piece room : ℕ) → length cells ≡ 35853 → length buf ≡ most → length out ≡ most → (piece ≤ most) × (room ≤ most) × (line_most ≤ room)
-    → (longest_record mainnet ≤ length cells) × (piece ≤ length buf) × (room ≤ length out) × (line_most ≤ room)
+pub cells-enough : longest_record mainnet ≤ 35853
 unfolding mainnet
-arrays-long cells buf out piece room a b c h = (omega (arith, a), omega (arith, b, h.0), omega (arith, c, h.1), h.2)
+cells-enough = omega arith
 
 module _ (piece room : ℕ) (b : Bool) (is_b : b ≡ (eqb piece 0 || ltb room line_most)) where
   room-long : b ≡ false → line_most ≤ room
@@ -446,7 +459,7 @@ module _ (piece room : ℕ) (b : Bool) (is_b : b ≡ (eqb piece 0 || ltb room li
       go false true q r = absurd (true≢false r)
       go true y q r = absurd (true≢false r)
 
-  pub piece-some : b ≡ false → (m : ℕ) → m ≡ min piece most → 0 < m
+  piece-some : b ≡ false → (m : ℕ) → m ≡ min piece most → 0 < m
   piece-some e m p = go (eqb piece 0) refl (sym is_b ∙ e)
     where
       go : (x : Bool) → eqb piece 0 ≡ x → (x || ltb room line_most) ≡ false → 0 < m
@@ -457,8 +470,12 @@ module _ (piece room : ℕ) (b : Bool) (is_b : b ≡ (eqb piece 0 || ltb room li
           some (suc n) z u = omega (arith, p, z)
       go true q r = absurd (true≢false r)
 
-  pub parts-long : b ≡ false → (m n : ℕ) → m ≡ min piece most → n ≡ min room most → (m ≤ most) × (n ≤ most) × (line_most ≤ n)
-  parts-long e m n p q = let l = room-long e in (omega (arith, p), omega (arith, q), omega (arith, q, l))
+  -- the parts of the buffers that are used
+  pub piece-part : b ≡ false → (m : ℕ) → m ≡ min piece most → (buf : List ℕ) → length buf ≡ most → 0 < length (take m buf)
+  piece-part e m p buf l = let h = piece-some e m p in let z : m ≤ length buf = omega (arith, p, l) in omega (arith, length-take-le m buf z, h)
+
+  pub room-part : b ≡ false → (n : ℕ) → n ≡ min room most → (out : List ℕ) → length out ≡ most → line_most ≤ length (take n out)
+  room-part e n q out l = let h = room-long e in let z : n ≤ length out = omega (arith, q, l) in omega (arith, length-take-le n out z, q, h)
 
 pub answered : (piece place : ℕ) (b : Bool) → b ≡ (eqb piece 0 || ltb place line_most) → (v : Bool) → b ≡ v → (n : Option Refusal) → n ≡ cond v (Some OutputShort) None
     → n ≡ cond (eqb piece 0 || ltb place line_most) (Some OutputShort) None
@@ -468,6 +485,9 @@ answered piece place b is_b v e n h = h ∙ ap (λ (x : Bool). cond x (Some Outp
 pub moved-as : (G T G' T' : List ℕ → Type 0) (E E' : Type 0) (from to : ℕ) (d : Done) → ((l : List ℕ) → G l → G' l) → ((l : List ℕ) → T l → T' l) → (E → E') → Moves G T E from to d
     → Moves G' T' E' from to d
 moved-as G T G' T' E E' from to d f h e m = record { replays = m.replays; gave = f m.replays.bytes m.gave; took = λ u. h m.replays.text (m.took u); ends = λ u. e (m.ends u) }
+
+pub ends-met : (G T : List ℕ → Type 0) (P E : Type 0) (from to : ℕ) (d : Done) → Moves G T (P → E) from to d → P → Moves G T E from to d
+ends-met G T P E from to d m p = moved-as G T G T (P → E) E from to d (λ l h. h) (λ l h. h) (λ e. e p) m
 
 -- what is printed, where the reader's and the writer's bytes are known
 pub printed-known : (s s' k k' : Option (List ℕ)) (from to : ℕ) (d : Done) → Moves (Consumes s s') (Appends k k') (IsAtEnd s') from to d → d.refusal ≡ None → d.read_failed ≡ false

@@ -64,17 +64,15 @@ pub fn replay<R: Read, W: Write>(
     let mut cells = [0u8; run::MAINNET_LONGEST];
     let mut buf = [0u8; MOST];
     let mut out = [0u8; MOST];
-    replay_in(
+    replay_from(
         rt,
         source,
         sink,
         from,
         to,
         &mut cells,
-        &mut buf,
-        &mut out,
-        least(piece, MOST),
-        least(room, MOST),
+        &mut buf[..piece.min(MOST)],
+        &mut out[..room.min(MOST)],
     )
 }
 
@@ -82,15 +80,6 @@ fn too_short(piece: usize, room: usize) -> bool
     ensures { result ≡ (eqb piece 0 || ltb room line_most) }
 {
     (piece == 0) | (room < run::LINE_MOST)
-}
-
-fn least(a: usize, b: usize) -> usize
-    ensures { result ≡ min a b }
-{
-    if a < b {
-        return a;
-    }
-    b
 }
 
 // 21: nothing was read, and nothing handed over.
@@ -129,52 +118,7 @@ fn stopped(
     }
 }
 
-// The buffers, of which so many bytes are used.
-fn replay_in<R: Read, W: Write>(
-    rt: &impl Eprint,
-    source: &mut R,
-    sink: &mut W,
-    from: u32,
-    to: u32,
-    cells: &mut [u8; run::MAINNET_LONGEST],
-    buf: &mut [u8; MOST],
-    out: &mut [u8; MOST],
-    piece: usize,
-    room: usize,
-) -> Done
-    requires { (piece ≤ most) × (room ≤ most) × (line_most ≤ room) }
-    ensures { Moves (Consumes (R.remaining source.old) (R.remaining source.new)) (Appends (W.contents sink.old) (W.contents sink.new)) (0 < piece → IsAtEnd (R.remaining source.new)) from to result × (result.refusal ≡ None) }
-{
-    replay_by(rt, source, sink, from, to, cells, buf, out, piece, room)
-}
-
-fn replay_by<R: Read, W: Write>(
-    rt: &impl Eprint,
-    source: &mut R,
-    sink: &mut W,
-    from: u32,
-    to: u32,
-    cells: &mut [u8],
-    buf: &mut [u8],
-    out: &mut [u8],
-    piece: usize,
-    room: usize,
-) -> Done
-    requires { (longest_record mainnet ≤ length cells.old) × (piece ≤ length buf.old) × (room ≤ length out.old) × (line_most ≤ room) }
-    ensures { Moves (Consumes (R.remaining source.old) (R.remaining source.new)) (Appends (W.contents sink.old) (W.contents sink.new)) (0 < piece → IsAtEnd (R.remaining source.new)) from to result × (result.refusal ≡ None) }
-{
-    replay_from(
-        rt,
-        source,
-        sink,
-        from,
-        to,
-        cells,
-        &mut buf[0..piece],
-        &mut out[0..room],
-    )
-}
-
+// Writes the first line, and reads on.
 fn replay_from<R: Read, W: Write>(
     rt: &impl Eprint,
     source: &mut R,
@@ -225,17 +169,17 @@ fn read_all<R: Read, W: Write>(
         let came = ports::receive(rt, source, got, buf);
         got = came.input;
         if came.failed {
-            let sent = send_fail(rt, sink, state, cells, out, handed);
-            let last = sent.output;
-            return stopped(got, last, false, true, sent.failed, false);
+            let fed = run::fail(state, cells, out).unwrap();
+            let sent = ports::send(rt, sink, handed, &out[..fed.wrote]);
+            return stopped(got, sent.output, false, true, sent.failed, false);
         }
         let n = came.count;
         if n == 0 {
-            let sent = send_finish(rt, sink, state, cells, out, handed);
-            let last = sent.output;
-            return stopped(got, last, true, false, sent.failed, false);
+            let fed = run::finish(state, cells, out).unwrap();
+            let sent = ports::send(rt, sink, handed, &out[..fed.wrote]);
+            return stopped(got, sent.output, true, false, sent.failed, false);
         }
-        let passed = feed_piece(rt, sink, state, cells, &buf[0..n], out, handed);
+        let passed = feed_piece(rt, sink, state, cells, &buf[..n], out, handed);
         state = passed.run;
         handed = passed.output;
         if passed.failed {
@@ -267,8 +211,8 @@ fn feed_piece<W: Write>(
     let mut at: usize = 0;
     while at < piece.len() {
         let fed = run::feed(state, cells, &piece[at..], out).unwrap();
-        let n = fed.wrote;
-        let sent = hand_over(rt, sink, handed, out, n);
+        let text = &out[..fed.wrote];
+        let sent = ports::send(rt, sink, handed, text);
         state = fed.run;
         handed = sent.output;
         at += fed.used;
@@ -289,61 +233,11 @@ fn feed_piece<W: Write>(
     }
 }
 
-// Hands over what stands at the start of the buffer.
-fn hand_over<W: Write>(rt: &impl Eprint, sink: &mut W, output: Output, out: &[u8], n: usize) -> Sent
-    requires { n ≤ length out.now }
-    ensures booked { result.output ≡ sent result.failed (wrote output (front n out.now)) }
-    ensures bytes { result.failed ≡ false → Appends (W.contents sink.old) (W.contents sink.new) (front n out.now) }
-{
-    ports::send(rt, sink, output, &out[0..n])
-}
-
 fn send_head<W: Write>(rt: &impl Eprint, sink: &mut W, out: &mut [u8], output: Output) -> Sent
     requires { line_most ≤ length out.old }
     ensures booked { result.output ≡ sent result.failed (wrote output head_line) }
     ensures bytes { result.failed ≡ false → Appends (W.contents sink.old) (W.contents sink.new) head_line }
 {
-    match lines::write_head(out) {
-        Ok(n) => hand_over(rt, sink, output, out, n),
-        Err(_) => Sent {
-            output,
-            failed: true,
-        },
-    }
-}
-
-fn send_finish<W: Write>(
-    rt: &impl Eprint,
-    sink: &mut W,
-    run: Run,
-    cells: &[u8],
-    out: &mut [u8],
-    output: Output,
-) -> Sent
-    ensures booked { result.output ≡ sent result.failed (wrote output (finish_of run cells.now (length out.old)).text) }
-    ensures bytes { result.failed ≡ false → Appends (W.contents sink.old) (W.contents sink.new) (finish_of run cells.now (length out.old)).text }
-{
-    let n = match run::finish(run, cells, out) {
-        Ok(fed) => fed.wrote,
-        Err(_) => 0,
-    };
-    hand_over(rt, sink, output, out, n)
-}
-
-fn send_fail<W: Write>(
-    rt: &impl Eprint,
-    sink: &mut W,
-    run: Run,
-    cells: &[u8],
-    out: &mut [u8],
-    output: Output,
-) -> Sent
-    ensures booked { result.output ≡ sent result.failed (wrote output (fail_of run cells.now (length out.old)).text) }
-    ensures bytes { result.failed ≡ false → Appends (W.contents sink.old) (W.contents sink.new) (fail_of run cells.now (length out.old)).text }
-{
-    let n = match run::fail(run, cells, out) {
-        Ok(fed) => fed.wrote,
-        Err(_) => 0,
-    };
-    hand_over(rt, sink, output, out, n)
+    let n = lines::write_head(out).unwrap();
+    ports::send(rt, sink, output, &out[..n])
 }

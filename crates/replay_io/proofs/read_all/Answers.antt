@@ -3,7 +3,7 @@ use Rattle.std.proofs.KnownBytes.{Appends-trans, Consumes-nil, Consumes-trans}
 use Rattle.std.specs.Io.KnownBytes.{Appends, Consumes, IsAtEnd}
 use Rattle.stream.specs.Lines.{head_line}
 use Rattle.replay_io.specs.Replays.{GoesOn, IsEmpty}
-use Rattle.replay_io.proofs.Laws.{still-above, reading-as, ends-finish, ends-fail, ends-cut, ends-over, ends-long, reading-on}
+use Rattle.replay_io.proofs.Laws.{handed-text, handed-booked, last-passes, last-wrote, still-above, reading-as, ends-finish, ends-fail, ends-cut, ends-over, ends-long, reading-on}
 use Rattle.replay_io.proofs.read_all.Goals as goal
 
 pub loop-init : goal.loop-init
@@ -19,6 +19,12 @@ loop-init g c =
       refl,
     )
 
+pub unwrap-fed-requires : goal.unwrap-fed-requires
+unwrap-fed-requires g c = last-passes _ _ _ _ _ c.fail.ensures.value c.loop.invariant.0.ready c.loop.invariant.1
+
+pub unwrap-fed-requires-then-n-eq0 : goal.unwrap-fed-requires-then-n-eq0
+unwrap-fed-requires-then-n-eq0 g c = last-passes _ _ _ _ _ c.finish.ensures.value c.loop.invariant.0.ready c.loop.invariant.1
+
 pub returns-then-came : goal.returns-then-came
 returns-then-came g c =
     let l = c.loop in
@@ -30,11 +36,14 @@ returns-then-came g c =
     let s2 = g.R.Read.remaining m.new.source in
     let k = g.W.Write.contents a.sink.now in
     let k1 = g.W.Write.contents l.sink in
-    let k2 = g.W.Write.contents c.send_fail-sent.new.sink in
+    let sent = c.send-sent in
+    let k2 = g.W.Write.contents sent.new.sink in
+    let n = last-wrote _ _ _ _ _ c.fail.ensures.value _ c.unwrap-fed.ensures in
     ends-fail (Consumes s s1) (GoesOn head_line k k1) a.from a.to (18446744073709551615 - l.counter) l.state l.cells l.got l.handed l.invariant.0 r.failed r.input r.count m.new.buf m.ensures.booked
     (Consumes s s2) (GoesOn head_line k k2) (Consumes s1 s2) (Appends k1 k2) (0 < length a.buf.now → IsAtEnd s2) m.ensures.bytes (λ x y. Consumes-trans s s1 s2 x y)
     (λ x y f h. λ before e. Appends-trans before k1 k2 x y (f before e) h)
-    c.if-came.true (m.ensures.none c.if-came.true) _ l.invariant.1 c.send_fail-sent.result.failed _ c.send_fail-sent.ensures.booked c.send_fail-sent.ensures.bytes _ c.stopped.ensures
+    c.if-came.true (m.ensures.none c.if-came.true) _ l.invariant.1 sent.result.failed _ (handed-booked _ _ _ c.fail.ensures.lines _ n l.handed sent.result.failed _ sent.ensures.booked)
+    (λ u. subst (Appends k1 k2) (handed-text _ _ _ c.fail.ensures.lines _ n) (sent.ensures.bytes u)) _ c.stopped.ensures
 
 pub returns-then-n-eq0 : goal.returns-then-n-eq0
 returns-then-n-eq0 g c =
@@ -47,11 +56,14 @@ returns-then-n-eq0 g c =
     let s2 = g.R.Read.remaining m.new.source in
     let k = g.W.Write.contents a.sink.now in
     let k1 = g.W.Write.contents l.sink in
-    let k2 = g.W.Write.contents c.send_finish-sent.new.sink in
+    let sent = c.send-sent-then-n-eq0 in
+    let k2 = g.W.Write.contents sent.new.sink in
+    let n = last-wrote _ _ _ _ _ c.finish.ensures.value _ c.unwrap-fed-then-n-eq0.ensures in
     ends-finish (Consumes s s1) (GoesOn head_line k k1) a.from a.to (18446744073709551615 - l.counter) l.state l.cells l.got l.handed l.invariant.0 r.failed r.input r.count m.new.buf m.ensures.booked
     (Consumes s s2) (GoesOn head_line k k2) (Consumes s1 s2) (Appends k1 k2) (0 < length a.buf.now → IsAtEnd s2) m.ensures.bytes (λ x y. Consumes-trans s s1 s2 x y)
     (λ x y f h. λ before e. Appends-trans before k1 k2 x y (f before e) h)
-    c.if-came.false c.if-n-eq0.true _ l.invariant.1 c.send_finish-sent.result.failed _ c.send_finish-sent.ensures.booked c.send_finish-sent.ensures.bytes (search rules) _ c.stopped-then-n-eq0.ensures
+    c.if-came.false c.if-n-eq0.true _ l.invariant.1 sent.result.failed _ (handed-booked _ _ _ c.finish.ensures.lines _ n l.handed sent.result.failed _ sent.ensures.booked)
+    (λ u. subst (Appends k1 k2) (handed-text _ _ _ c.finish.ensures.lines _ n) (sent.ensures.bytes u)) (search rules) _ c.stopped-then-n-eq0.ensures
 
 pub returns-then-passed : goal.returns-then-passed
 returns-then-passed g c =

@@ -42,7 +42,7 @@ enough r cells room b q e =
     let p = or_no (ltb room line_most) (ltb cells (longest_record r.replay.settings)) o.0 in
     record { line = ltb-false room line_most p.0; longest = ltb-false cells (longest_record r.replay.settings) p.1; filled = ltb-false cells r.filled o.1 }
 
-ready-enough : (r : Run) (cells : List ℕ) (room : ℕ) → Ready r cells → line_most ≤ room → too_short r (length cells) room ≡ false
+pub ready-enough : (r : Run) (cells : List ℕ) (room : ℕ) → Ready r cells → line_most ≤ room → too_short r (length cells) room ≡ false
 unfolding too_short
 ready-enough r cells room y h = rw (le-ltb room line_most h, le-ltb (length cells) (longest_record r.replay.settings) y.room, le-ltb (length cells) r.filled y.inside)
 
