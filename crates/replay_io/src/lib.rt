@@ -4,13 +4,13 @@
 
 ghost use Rattle.std.specs.Io.KnownBytes.{Appends, Consumes, IsAtEnd};
 ghost use Rattle.stream.specs.Driven.{replay_prints};
-ghost use Rattle.std.specs.Prelude.{◌≡◌, ◌<◌, IfSome, false, ◌||◌, cond, ◌≤◌, min, ltb, eqb, length};
+ghost use Rattle.std.specs.Prelude.{◌≡◌, ◌<◌, IfSome, false, ◌||◌, cond, ◌≤◌, ltb, eqb, length};
 ghost use Rattle.codec.specs.declared.refusal.Refusal.TheVariants.{OutputShort};
 ghost use Rattle.voting.specs.Settings.{mainnet};
 ghost use Rattle.ports.specs.Ports.{wrote, sent};
 ghost use Rattle.stream.specs.Lines.{head_line, line_most};
-ghost use Rattle.stream.specs.Run.{longest_record, Ready, finish_of, fail_of};
-ghost use Rattle.replay_io.specs.Replays.{most, front, Feeding, GoesOn, Moves, IsEmpty, Reading, Replays};
+ghost use Rattle.stream.specs.Run.{longest_record, Ready};
+ghost use Rattle.replay_io.specs.Replays.{Feeding, GoesOn, Moves, IsEmpty, Reading, Replays};
 
 use codec::refusal::Refusal;
 use ports::{Input, Output, Sent};

@@ -1,5 +1,5 @@
 // The lines that the replay prints. docs/RULES.md, "Replay".
-ghost use Rattle.std.specs.Prelude.{◌≡◌, ◌≤◌, [], ◌∷◌, length, take};
+ghost use Rattle.std.specs.Prelude.{◌≡◌, ◌≤◌, [], ◌∷◌};
 ghost use Rattle.codec.specs.Output.{outcome, writes};
 ghost use Rattle.codec.specs.Put.{Put};
 ghost use Rattle.codec.specs.Decimal.{digits};
