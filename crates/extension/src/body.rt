@@ -1,5 +1,6 @@
 // The extension body: a 32-byte id, a count, and fields. docs/RULES.md, "Extension body and match".
-ghost use Rattle.std.specs.Prelude.{◌≡◌, length};
+ghost use Rattle.std.specs.Prelude.{◌≡◌, ◌≤◌, length, OnOk};
+ghost use Rattle.codec.specs.Check.{and_then};
 ghost use Rattle.extension.specs.Section.{listing, closed, section_items, any};
 ghost use Rattle.extension.specs.Pack.{BodyAgain};
 ghost use Rattle.extension.specs.Body.{field_at, read_field, extension_of, header_id, body_field, field_value, update_key, parameter_key, update_in, proposed_update, wrong_size, wrong_parameter, check_body};
@@ -27,10 +28,26 @@ pub struct FieldPlace {
     pub end: usize,
 }
 
+// How many fields a body has, and where the first begins.
+#[derive(Clone, Copy)]
+pub struct Head {
+    pub count: u32,
+    pub begin: usize,
+}
+
 // How many fields a body has, and where they begin and end; or 22, 1 to 5.
 pub fn parse_extension_bytes(body: &[u8]) -> Result<Section, Refusal>
     ensures value { result ≡ extension_of body.now }
     ensures again { BodyAgain body.now result }
+{
+    let head = read_head(body)?;
+    fields_section(body, head.count, head.begin)
+}
+
+// For the layers above: what stands before a body's fields; or 22, 1, 2.
+pub fn read_head(body: &[u8]) -> Result<Head, Refusal>
+    ensures short { OnOk result (length body.now ≤ 65536) }
+    ensures value { and_then result (λ h. closed h.count h.begin (listing (read_field body.now) h.count h.begin)) ≡ extension_of body.now }
 {
     if INPUT_MOST < body.len() {
         return Err(Refusal::InputLong);
@@ -39,7 +56,10 @@ pub fn parse_extension_bytes(body: &[u8]) -> Result<Section, Refusal>
         return Err(Refusal::BodyShort);
     }
     let m = vlq::read_u32(body, HEADER_ID_SIZE).ok_or(Refusal::CountUnreadable)?;
-    fields_section(body, m.value as u32, m.next)
+    Ok(Head {
+        count: m.value as u32,
+        begin: m.next,
+    })
 }
 
 // The id of the header that a body belongs to, as the part of the body that holds it; the empty part where the body is refused.

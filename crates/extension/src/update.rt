@@ -1,13 +1,14 @@
 // A settings update: rules to disable, and statuses of rules. docs/RULES.md, "Settings update".
 ghost use Rattle.std.specs.Prelude.{◌≡◌};
+ghost use Rattle.std.specs.Option.{ok_or, option_map};
+ghost use Rattle.codec.specs.declared.refusal.Refusal.TheVariants.{UpdateUnreadable};
 ghost use Rattle.codec.specs.Check.{and_then};
 ghost use Rattle.codec.specs.Vlq.{vlq_at};
-ghost use Rattle.extension.specs.Section.{listing, closed};
 ghost use Rattle.extension.specs.Rules.{surveyed, rules_of};
 ghost use Rattle.extension.specs.Encode.{UpdateAgain};
 ghost use Rattle.extension.specs.Update.{rule_at, read_rule, status_at, placed_status, read_status, update_rule, update_status, status_raw, count_in, items_from, no_update, with_rules, update_of, disables, proposed_of};
 
-use crate::body::INPUT_MOST;
+use crate::body::{Head, INPUT_MOST};
 use crate::mandatory;
 use crate::section::Section;
 use codec::refusal::Refusal;
@@ -159,20 +160,49 @@ fn count_in(n: u64) -> u32
     if n < 0x8000_0000 { n as u32 } else { 0 }
 }
 
+// A count of items at a position, and where the first begins.
+fn items_at(bytes: &[u8], at: usize) -> Result<Head, Refusal>
+    ensures { result ≡ ok_or (option_map (λ m. record { count = count_in m.value; begin = m.next }) (vlq_at 32 bytes.now at)) UpdateUnreadable }
+{
+    let m = vlq::read_u32(bytes, at).ok_or(Refusal::UpdateUnreadable)?;
+    Ok(Head {
+        count: count_in(m.value),
+        begin: m.next,
+    })
+}
+
 // The rules: a count at the start, and so many of them.
 fn rules_from(bytes: &[u8], rule: u16) -> Result<Rules, Refusal>
     ensures { result ≡ rules_of bytes.now rule (items_from (read_rule bytes.now) (vlq_at 32 bytes.now 0)) }
 {
-    let m = vlq::read_u32(bytes, 0).ok_or(Refusal::UpdateUnreadable)?;
-    rules_section(bytes, rule, count_in(m.value), m.next)
+    let flags = mandatory::mandatory_flags();
+    let Head { count, begin } = items_at(bytes, 0)?;
+    let mut mandatory = false;
+    let mut listed = false;
+    let mut end = begin;
+    for _ in 0..count {
+        let x = read_rule(bytes, end)?;
+        mandatory |= mandatory::flag_in(flags, x.id as u32);
+        listed |= rule == x.id;
+        end = x.next;
+    }
+    Ok(Rules {
+        section: Section { count, begin, end },
+        mandatory,
+        listed,
+    })
 }
 
 // The statuses' section: a count at a position, and the statuses.
 fn statuses_from(bytes: &[u8], at: usize) -> Result<Section, Refusal>
     ensures { result ≡ items_from (read_status bytes.now) (vlq_at 32 bytes.now at) }
 {
-    let m = vlq::read_u32(bytes, at).ok_or(Refusal::UpdateUnreadable)?;
-    statuses_section(bytes, count_in(m.value), m.next)
+    let Head { count, begin } = items_at(bytes, at)?;
+    let mut end = begin;
+    for _ in 0..count {
+        end = read_status(bytes, end)?.end;
+    }
+    Ok(Section { count, begin, end })
 }
 
 // After the rules: 8, and then the statuses.
@@ -191,34 +221,4 @@ fn with_rules(bytes: &[u8], rule: u16, rules: Rules) -> Result<Proposed, Refusal
         },
         disables: rules.listed,
     })
-}
-
-fn rules_section(bytes: &[u8], rule: u16, count: u32, begin: usize) -> Result<Rules, Refusal>
-    ensures { result ≡ rules_of bytes.now rule (closed count begin (listing (read_rule bytes.now) count begin)) }
-{
-    let flags = mandatory::mandatory_flags();
-    let mut mandatory = false;
-    let mut listed = false;
-    let mut end = begin;
-    for _ in 0..count {
-        let x = read_rule(bytes, end)?;
-        mandatory = mandatory | mandatory::flag_in(flags, x.id as u32);
-        listed = listed | (rule == x.id);
-        end = x.next;
-    }
-    Ok(Rules {
-        section: Section { count, begin, end },
-        mandatory,
-        listed,
-    })
-}
-
-fn statuses_section(bytes: &[u8], count: u32, begin: usize) -> Result<Section, Refusal>
-    ensures { result ≡ closed count begin (listing (read_status bytes.now) count begin) }
-{
-    let mut end = begin;
-    for _ in 0..count {
-        end = read_status(bytes, end)?.end;
-    }
-    Ok(Section { count, begin, end })
 }

@@ -10,7 +10,6 @@ ghost use Rattle.walk.specs.Walk.{table_in, WalkedIs, match_found};
 ghost use Rattle.walk.specs.Fields.{place_of, slot_in, table_from, fork_unlike};
 
 use codec::refusal::Refusal;
-use codec::vlq;
 use extension::parameters::Mismatch;
 use extension::section::Section;
 use extension::{body, parameters};
@@ -30,15 +29,9 @@ pub struct Walked {
 pub fn walk_body(body: &[u8]) -> Walked
     ensures { WalkedIs body.now result }
 {
-    if body::INPUT_MOST < body.len() {
-        return refused(Refusal::InputLong);
-    }
-    if body.len() < body::HEADER_ID_SIZE {
-        return refused(Refusal::BodyShort);
-    }
-    match vlq::read_u32(body, body::HEADER_ID_SIZE) {
-        Some(m) => walk_fields(body, m.value as u32, m.next),
-        None => refused(Refusal::CountUnreadable),
+    match body::read_head(body) {
+        Ok(head) => walk_fields(body, head.count, head.begin),
+        Err(e) => refused(e),
     }
 }
 

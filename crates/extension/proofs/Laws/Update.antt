@@ -10,6 +10,8 @@ use lib.Dec.{ltb, eqb}
 use lib.IntN.{ℤ}
 use lib.ListN.{length, get_or}
 use Rattle.std.specs.Prelude.{Option, Some, None, Result, Ok, Err}
+use Rattle.std.specs.Option.{ok_or, option_map}
+use Rattle.extension.specs.declared.body.Head.{Head}
 use Rattle.codec.specs.declared.refusal.Refusal.{Refusal}
 use Rattle.codec.specs.declared.refusal.Refusal.TheVariants.{UpdateUnreadable, MandatoryDisabled, InputLong}
 use Rattle.codec.specs.Check.{and_then}
@@ -148,15 +150,21 @@ pub count-large : (n : ℕ) → 2147483648 ≤ n → 0 ≡ count_in n
 unfolding count_in
 count-large n h = rw (le-ltb _ _ h)
 
--- a section, by what its count reads
-module _ {A : Type 0} (read : ℕ → Reading A) (r : Option Number) where
-  pub from-unreadable : None ≡ r → Err UpdateUnreadable ≡ items_from read r
-  unfolding items_from
-  from-unreadable e = rw (← e)
+-- a count, and where what it counts begins
+abbrev pub head_in : Option Number → Result Head Refusal
+head_in r = ok_or (option_map (λ (m : Number). record { count = count_in m.value; begin = m.next }) r) UpdateUnreadable
 
-  pub from-count : (m : Number) → Some m ≡ r → (n : ℕ) → n ≡ count_in m.value → closed n m.next (listing read n m.next) ≡ items_from read r
+-- a section, by what its count reads
+module _ {A : Type 0} (read : ℕ → Reading A) where
+  pub from-unreadable : (r : Option Number) (e : Refusal) → Err e ≡ head_in r → Err e ≡ items_from read r
   unfolding items_from
-  from-count m e n q = rw (← e, q)
+  from-unreadable None e q = let same : e ≡ UpdateUnreadable = cc in ap Err same
+  from-unreadable (Some m) e q = cc
+
+  pub from-count : (r : Option Number) (h : Head) → Ok h ≡ head_in r → closed h.count h.begin (listing read h.count h.begin) ≡ items_from read r
+  unfolding items_from
+  from-count None h q = cc
+  from-count (Some m) h q = let e : h ≡ record { count = count_in m.value; begin = m.next } = cc in rw e
 
 -- ---- the rules in one pass
 
