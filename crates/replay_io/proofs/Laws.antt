@@ -13,7 +13,7 @@ use Rattle.codec.specs.Output.{outcome, writes, written}
 use Rattle.voting.specs.Settings.{mainnet}
 use Rattle.ports.specs.declared.Input.{Input}
 use Rattle.ports.specs.declared.Output.{Output}
-use Rattle.ports.proofs.Laws.{text-inside, text-fits}
+use Rattle.ports.proofs.Laws.{text-fits}
 use Rattle.ports.specs.Ports.{unread, unwritten, read, ended, broken, came, wrote, sent, read-on, wrote_on, read_none, wrote_none}
 use Rattle.stream.specs.declared.run.Run.{Run}
 use Rattle.stream.specs.declared.run.Fed.{Fed}
@@ -32,9 +32,6 @@ use Rattle.replay_io.specs.Replays.{Moves, IsEmpty, most, Feeding, Reading}
 module _ (text out out' : List ℕ) (q : out' ≡ written text out) (n : ℕ) (e : n ≡ length text) where
   pub handed-text : take n out' ≡ text
   handed-text = let z : n ≡ n - 0 = omega arith in ap (λ (k : ℕ). take k out') z ∙ text-fits text out out' q n e
-
-  pub handed-inside : n ≤ length out'
-  handed-inside = text-inside text out out' q n e
 
   pub handed-booked : (o : Output) (b : Bool) (o' : Output) → o' ≡ sent b (wrote o (take n out')) → o' ≡ sent b (wrote o text)
   handed-booked o b o' s = s ∙ ap (λ (x : List ℕ). sent b (wrote o x)) handed-text

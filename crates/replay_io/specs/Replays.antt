@@ -1,6 +1,6 @@
 -- What is read from one descriptor and handed to another. docs/RULES.md, "Replay".
 -- Assumes nothing.
-use Rattle.std.specs.Prelude.{None, ℕ, ◌+◌, ◌-◌, ◌^◌, ◌≤◌, ◌≡◌, Bool, true, false, List, [], ◌++◌, length, take, drop, Option}
+use Rattle.std.specs.Prelude.{None, ℕ, ◌+◌, ◌-◌, ◌^◌, ◌≤◌, ◌≡◌, Bool, true, false, List, [], ◌++◌, length, drop, Option}
 use Rattle.std.specs.Io.KnownBytes.{Appends}
 use Rattle.codec.specs.declared.refusal.Refusal.TheVariants.{RecordMalformed}
 use Rattle.codec.specs.Refusal.{number}
@@ -71,10 +71,6 @@ GoesOn start old new text = (before : Option (List ℕ)) → Appends before old 
 -- no read and no write is of more bytes
 abbrev pub most : ℕ
 most = 65536
-
--- the part `[0..n]`, as a call has it
-abbrev pub front : ℕ → List ℕ → List ℕ
-front n l = take (n - 0) l
 
 -- a piece was fed up to a position: its lines were handed over, the last of them by a write that failed or not, and nothing of what is to be
 -- printed is lost
