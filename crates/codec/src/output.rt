@@ -12,13 +12,17 @@ pub fn put(out: &mut [u8], at: usize, b: u8)
     out[at] = b;
 }
 
-// For the layers above: stores bytes from a position on, as far as the buffer reaches.
+// For the layers above: stores bytes from a position on, as far as the buffer reaches. Byte by byte: `copy_from_slice` makes the library for C
+// need `memmove`.
 pub fn put_bytes(out: &mut [u8], at: usize, bytes: &[u8])
     ensures { out.new ≡ sets out.old at bytes.now }
 {
-    if out.len() <= at {
-        return;
+    let mut k = at;
+    for b in bytes {
+        if out.len() <= k {
+            return;
+        }
+        out[k] = *b;
+        k += 1;
     }
-    let n = bytes.len().min(out.len() - at);
-    out[at..at + n].copy_from_slice(&bytes[..n]);
 }

@@ -1,10 +1,8 @@
 -- Stores at a position of a list, and how they join: the laws that serve every writer into a lent buffer.
 -- Assumes nothing.
-use Rattle.std.proofs.Common.{Err, ◌≡◌, ℕ, ◌+◌, ◌-◌, suc, ◌<◌, ◌≤◌, min, List, [], ◌∷◌, ◌++◌, length, take, drop, set, sym, refl, ap, ◌∙◌, add-zero, zero-add, arith, length-drop, length-take-le, take_all, take-append-drop, le-leb}
+use Rattle.std.proofs.Common.{Err, ◌≡◌, ℕ, ◌+◌, suc, ◌<◌, ◌≤◌, List, [], ◌∷◌, ◌++◌, length, get_or, drop, set, sym, refl, ap, ◌∙◌, add-zero, zero-add, add-one, arith, drop_of_length-le, drop-cons, le-leb}
 use borrow.Author.Tests.{lt-leb}
-use lib.Seq.{sets, sets-eq, set_out, length-sets}
-use borrow.Rule.Slice.PartMut.{put_mid}
-use Rattle.std.proofs.lemmas.Slice.{put_mid-paste}
+use lib.Seq.{sets, sets-eq, set_out}
 use Rattle.codec.specs.declared.refusal.Refusal.TheVariants.{OutputShort}
 use Rattle.codec.specs.declared.refusal.Refusal.{Refusal}
 use Rattle.codec.specs.Check.{Check, passed}
@@ -24,22 +22,13 @@ sets-out (b ∷ bytes) cells at h =
     let h' : length cells ≤ suc at = omega arith in
     rw (set_out cells at b h) (sets-out bytes cells (suc at) h')
 
--- as many stores as there is room for
-sets-rest : (bytes cells : List ℕ) (at : ℕ) → (0 < length bytes → length cells ≤ at) → sets cells at bytes ≡ cells
-sets-rest [] cells at h = refl
-sets-rest (b ∷ bytes) cells at h = sets-out (b ∷ bytes) cells at (h (omega arith))
+-- the stores that are left after i of them: none, or one and then the others
+module _ (bytes : List ℕ) (i : ℕ) where
+  pub sets-none : length bytes ≤ i → (cells : List ℕ) (k : ℕ) → sets cells k (drop i bytes) ≡ cells
+  sets-none h cells k = rw (drop_of_length-le bytes h)
 
-pub sets-room : (bytes cells part : List ℕ) (at n : ℕ) → at < length cells → n ≡ min (length bytes) (length cells - at) → part ≡ take n bytes
-    → put_mid at (at + n - at) cells part ≡ sets cells at bytes
-sets-room bytes cells part at n h e p =
-    let l : length (take n bytes) ≡ n = length-take-le n bytes (omega arith) in
-    let whole = put_mid-paste at (at + n - at) cells part (take n bytes) (length (take n bytes)) p (omega arith) refl in
-    let front = sets-eq (take n bytes) cells at (omega arith) in
-    let rest = sets-rest (drop n bytes) (sets cells at (take n bytes)) (at + length (take n bytes))
-    (λ r. omega (arith, length-drop n bytes, length-sets cells at (take n bytes))) in
-    let all = sets-append (take n bytes) (drop n bytes) cells at in
-    whole ∙ ap (λ (b : List ℕ). take at cells ++ b ++ drop (at + length (take n bytes)) cells) (take_all (length (take n bytes)) (take n bytes) (omega arith))
-    ∙ sym (all ∙ rest ∙ front) ∙ ap (sets cells at) (take-append-drop n bytes)
+  pub sets-one : i < length bytes → (cells : List ℕ) (k : ℕ) → sets cells k (drop i bytes) ≡ sets (set cells k (get_or bytes i 0)) (k + 1) (drop (i + 1) bytes)
+  sets-one h cells k = rw (drop-cons bytes i 0 h, add-one k, add-one i)
 
 -- a writer's outcome, by its test of the buffer's length: n is the number of bytes that it wants to write
 module _ (bytes cells : List ℕ) (n : ℕ) (e : n ≡ length bytes) where

@@ -1,7 +1,9 @@
 -- Laws of two's complement over a width w.
 -- Assumes nothing.
-use Rattle.std.proofs.Common.{◌≡◌, ℕ, suc, ◌+◌, ◌-◌, ◌%◌, ◌^◌, ◌<◌, ◌≤◌, Bool, true, false, cond, T, ltb, ℤ, pos, negsuc, ◌+ℤ◌, nat_abs, sym, refl, ap, ◌∙◌, subst, mod-eq_of_lt, arith, w8, w16, w32, w64, Fits, SFits, to_z, of_z, ltb-false, ltb-true}
+use Rattle.std.proofs.Common.{◌≡◌, ℕ, zero, suc, ◌+◌, ◌-◌, ◌%◌, ◌^◌, ◌<◌, ◌≤◌, Bool, true, false, cond, T, ltb, ℤ, pos, negsuc, ◌+ℤ◌, ◌-ℤ◌, neg_ℤ, nat_abs, sym, refl, ap, ◌∙◌, subst, mod-eq_of_lt, arith, w8, w16, w32, w64, Fits, SFits, to_z, of_z, ltb-false, ltb-true}
+use mathlib.Core.Path.{subst⁻¹}
 use native.Mathlib.Nat.{add-mod_right}
+use lib.IntN.{+ℤ_idl}
 use lib.Signed.{mag, lt_z, non_neg}
 use mir.Syntax.{Width, w128}
 use mir.Val.{bits, hbits, sel}
@@ -109,3 +111,33 @@ wrapped-natural w a b h g =
 pub wrapped-pos : (w : Width) (a : ℕ) → a < 2 ^ bits w → signed_of (bits w) a ≡ wrapped (bits w) (pos a)
 unfolding wrapped bits_of modulo
 wrapped-pos w a h = ap (signed_of (bits w)) (sym (mod-eq_of_lt h))
+
+-- the same from the bits of the summands, as a callee's `ensures` has them: a signed argument x stands there as `to_z w (of_z w x)`
+pub bits-add : (w : Width) (a b : ℤ) → SFits w a → SFits w b → {m n : ℕ} → m ≡ bits_of (bits w) (to_z w (of_z w a)) → n ≡ bits_of (bits w) (to_z w (of_z w b)) → (m + n) % 2 ^ bits w ≡ bits_of (bits w) (a +ℤ b)
+bits-add w a b f g p q = rw (p, q, to_z-of_z w a f, to_z-of_z w b g, ← of_z-is w a f, ← of_z-is w b g) (add_wraps w a b f g)
+
+-- The needs of `0 - x`, where x is not the least number of its type, whose bits are 2 ^ hbits w
+neg-fits : (w : Width) (z : ℤ) → SFits w z → (of_z w z ≡ 2 ^ hbits w → ⊥) → SFits w (neg_ℤ z)
+neg-fits w (pos zero) f h = f
+neg-fits w (pos (suc n)) f h = record { sfits = omega arith }
+neg-fits w (negsuc n) f h = record { sfits = omega (arith, pow-bits w) }
+
+minus : (w : Width) (z : ℤ) → SFits w z → pos 0 -ℤ to_z w (of_z w z) ≡ neg_ℤ z
+minus w z f = +ℤ_idl (neg_ℤ (to_z w (of_z w z))) ∙ ap neg_ℤ (to_z-of_z w z f)
+
+pub minus-fits : (w : Width) (z : ℤ) → SFits w z → (of_z w z ≡ 2 ^ hbits w → ⊥) → SFits w (pos 0 -ℤ to_z w (of_z w z))
+minus-fits w z f h = subst⁻¹ (SFits w) (minus w z f) (neg-fits w z f h)
+
+pub minus-wraps : (w : Width) (z : ℤ) → SFits w z → (of_z w z ≡ 2 ^ hbits w → ⊥) → to_z w (of_z w (pos 0 -ℤ to_z w (of_z w z))) ≡ wrapped (bits w) (neg_ℤ z)
+minus-wraps w z f h = to_z-of_z w (pos 0 -ℤ to_z w (of_z w z)) (minus-fits w z f h) ∙ minus w z f ∙ sym (wraps-to w (neg_ℤ z) (neg-fits w z f h))
+
+least : (w : Width) (z : ℤ) → SFits w z → of_z w z ≡ 2 ^ hbits w → let y = to_z w (2 ^ hbits w) in to_z w (of_z w y) ≡ wrapped (bits w) (neg_ℤ y) → to_z w (of_z w z) ≡ wrapped (bits w) (neg_ℤ z)
+least w z f e k = subst⁻¹ (λ (y : ℤ). to_z w (of_z w y) ≡ wrapped (bits w) (neg_ℤ y)) (sym (to_z-of_z w z f) ∙ ap (to_z w) e) k
+
+pub minus-least : (w : Width) (z : ℤ) → SFits w z → of_z w z ≡ 2 ^ hbits w → to_z w (of_z w z) ≡ wrapped (bits w) (neg_ℤ z)
+unfolding wrapped bits_of modulo signed_of
+minus-least w8 z f e = least w8 z f e refl
+minus-least w16 z f e = least w16 z f e refl
+minus-least w32 z f e = least w32 z f e refl
+minus-least w64 z f e = least w64 z f e refl
+minus-least w128 z f e = least w128 z f e refl
