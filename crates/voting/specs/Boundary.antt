@@ -1,6 +1,6 @@
 -- The boundary on values: fork part, ordinary votes, entry 9. docs/RULES.md, "Boundary".
 -- Assumes nothing.
-use Rattle.std.specs.Prelude.{Result, Ok, ℕ, Bool, true, false, cond, not, ◌&&◌, List, ℤ, pos, None, Some}
+use Rattle.std.specs.Prelude.{Result, Ok, Err, ℕ, Bool, true, false, cond, not, ◌&&◌, List, ℤ, pos, None, Some}
 use Rattle.voting.specs.declared.settings.VotingConfig.{VotingConfig}
 use Rattle.voting.specs.Value.{Value}
 use Rattle.voting.specs.declared.table.Table.{Table}
@@ -12,7 +12,7 @@ use Rattle.voting.specs.Common.{eq_z}
 use Rattle.voting.specs.Table.{id_subblocks_per_block, id_block_version, lookup, update, with_fork}
 use Rattle.voting.specs.Header.{soft_fork_vote}
 use Rattle.voting.specs.Tally.{first_count}
-use Rattle.voting.specs.ForkPart.{fork_part}
+use Rattle.voting.specs.ForkPart.{no_round, fork_part}
 use Rattle.voting.specs.Ordinary.{ordinary_votes}
 
 -- an entry is this number; an entry is absent
@@ -47,3 +47,8 @@ boundary_of g height t tally vote disables =
     let from = with_fork t part.fork in
     and_then (ordinary_votes g from tally from)
     (λ voted. Ok (record { table = with_subblocks (part.round.rose && disables) voted; round = part.round })))
+
+-- What goes on after a boundary that was answered so, from the old table. Refused: the old table, and nothing happens to a round
+unfoldable pub goes_on : Table → Result Boundary Refusal → Boundary
+goes_on t (Ok b) = b
+goes_on t (Err e) = record { table = t; round = no_round }

@@ -3,7 +3,7 @@ ghost use Rattle.std.specs.Prelude.{◌≡◌, [], pos};
 ghost use Rattle.voting.specs.Tally.{entry, entries};
 ghost use Rattle.codec.specs.Check.{and_then};
 ghost use Rattle.voting.specs.Ordinary.{voted};
-ghost use Rattle.voting.specs.Boundary.{with_subblocks, boundary_of};
+ghost use Rattle.voting.specs.Boundary.{with_subblocks, boundary_of, goes_on};
 ghost use Rattle.voting.specs.Sweep.{begin_sweep, sweep_entry, sweep_entries, finish_sweep};
 
 use crate::fork::Round;
@@ -131,4 +131,12 @@ pub fn boundary_parameters(
     let second = place(config, table, first, tally.second);
     let third = place(config, table, second, tally.third);
     finish(config, height, table, vote, disables, third)
+}
+
+// What goes on after a boundary from an old table: what it computed; refused, the old table, and nothing happens to a round.
+pub fn goes_on(table: Table, answer: Result<Boundary, Refusal>) -> Boundary
+    ensures { result ≡ goes_on table answer }
+{
+    let round = fork::no_round();
+    answer.unwrap_or(Boundary { table, round })
 }

@@ -1,5 +1,6 @@
 // The ordinary votes at a boundary, and the step of each parameter. docs/RULES.md, "Boundary".
 ghost use Rattle.std.specs.Prelude.{◌≡◌, ℕ, ◌-◌, ◌≤◌, pos, Some, None, if◌then◌else◌, slice_index_or};
+ghost use Rattle.std.specs.Result.{result_unwrap_or};
 ghost use Rattle.voting.specs.Ordinary.{least_of, greatest_of, fixed_step_of, parameter, hundredth, step_size, raised, lowered, known, counts, voted, parameter_min, parameter_max, parameter_step};
 
 use crate::header::SOFT_FORK_ID;
@@ -126,6 +127,13 @@ pub fn vote(config: VotingConfig, from: Table, e: Entry, new: Table) -> Result<T
     let m = Parameter::of(e.id).ok_or(Refusal::UnknownParameter)?;
     let z = from.get(m.0).ok_or(Refusal::AbsentParameter)?;
     Ok(new.with(m.0, Some(m.moved(0 < e.id, z))))
+}
+
+// What goes on after an entry: the table; refused, the table as it came.
+pub fn goes_on(new: Table, answer: Result<Table, Refusal>) -> Table
+    ensures { result ≡ result_unwrap_or answer new }
+{
+    answer.unwrap_or(new)
 }
 
 // The least value of a vote's parameter; absent where there is no such parameter.

@@ -2,23 +2,26 @@
 -- Assumes nothing.
 use Rattle.std.proofs.Common.{◌≡◌, ℕ, ◌<◌, Bool, true, not, ◌&&◌, List, ℤ, pos, refl, ap, ◌∙◌, arith, w32, SFits, of_z, eq-eqb, ne_eqb}
 use Rattle.voting.specs.declared.settings.VotingConfig.{VotingConfig}
-use Rattle.std.specs.Prelude.{None, Some, Ok, Err}
+use Rattle.std.specs.Prelude.{None, Some, Result, Ok, Err}
+use Rattle.std.specs.Result.{result_unwrap_or}
+use Rattle.codec.specs.declared.refusal.Refusal.{Refusal}
 use Rattle.codec.specs.declared.refusal.Refusal.TheVariants.{BlockVersionAbsent, BlockVersionDiffers}
 use Rattle.codec.specs.Check.{passed}
 use Rattle.voting.specs.declared.table.Table.{Table}
 use Rattle.voting.specs.declared.tally.Entry.{Entry}
+use Rattle.voting.specs.declared.fork.Round.{Round}
 use Rattle.voting.specs.declared.fork.ForkPart.{ForkPart}
 use Rattle.voting.specs.declared.boundary.Boundary.{Boundary}
 use Rattle.voting.specs.Table.{lookup, with_fork, has_version, check_block_version}
 use Rattle.voting.specs.Header.{soft_fork_vote}
 use Rattle.voting.specs.Tally.{first_count}
-use Rattle.voting.specs.ForkPart.{fork_part}
+use Rattle.voting.specs.ForkPart.{no_round, fork_part}
 use Rattle.voting.specs.Ordinary.{known, ordinary_votes}
-use Rattle.voting.specs.Boundary.{is_number, is_absent, with_subblocks, boundary_of}
+use Rattle.voting.specs.Boundary.{is_number, is_absent, with_subblocks, boundary_of, goes_on}
 use Rattle.voting.proofs.Laws.Integers.{is-number}
 use Rattle.voting.proofs.Laws.Tests.{by-test, then_ok}
 use Rattle.voting.proofs.Laws.Table.{update-keeps}
-use Rattle.voting.proofs.Laws.Ordinary.{ordinary-keeps}
+use Rattle.voting.proofs.Laws.Ordinary.{ordinary-keeps-read}
 
 -- ---- the version of a block
 
@@ -45,6 +48,13 @@ pub subblocks-keeps : (disabled : Bool) (t : Table) → (with_subblocks disabled
 unfolding with_subblocks
 subblocks-keeps disabled t =
     by-test (is_number (lookup t 123) (pos 4) && is_absent (lookup t 9) && not disabled) (λ e. rw e (update-keeps t 9 (Some (pos 30)) nine-known)) (λ e. rw e)
+
+-- ---- what goes on after a boundary that is refused, or not
+
+pub goes-on-is : (t : Table) (x : Result Boundary Refusal) (r : Round) → r ≡ no_round → result_unwrap_or x (record { table = t; round = r }) ≡ goes_on t x
+unfolding goes_on
+goes-on-is t (Ok b) r e = refl
+goes-on-is t (Err n) r e = rw e
 
 -- ---- a boundary that is not refused, taken apart
 
@@ -75,6 +85,6 @@ passes g height t tally vote disables b e =
       voted = q.0;
       votes-pass = q.1;
       new-table = ap (λ (x : Boundary). x.table) i;
-      new-fork = ap (λ (x : Boundary). x.table.fork) i ∙ subblocks-keeps (part.round.rose && disables) q.0 ∙ ordinary-keeps g from tally from q.0 q.1;
+      new-fork = ap (λ (x : Boundary). x.table.fork) i ∙ subblocks-keeps (part.round.rose && disables) q.0 ∙ ordinary-keeps-read g from tally from q.0 q.1;
       same-round = ap (λ (x : Boundary). x.round) i;
     }

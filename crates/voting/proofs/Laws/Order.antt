@@ -19,7 +19,7 @@ use Rattle.voting.specs.Header.{negation, soft_fork_vote}
 use Rattle.voting.specs.Tally.{first_count}
 use Rattle.voting.specs.ForkPart.{fork_part}
 use Rattle.voting.specs.Ordinary.{parameter, moved, known, voted, ordinary_votes}
-use Rattle.voting.specs.Boundary.{with_subblocks, boundary_of}
+use Rattle.voting.specs.Boundary.{with_subblocks, boundary_of, goes_on}
 use Rattle.voting.specs.Order.{Compatible, Consistent, NoParameter, Alike}
 use Rattle.voting.proofs.Laws.Integers.{eq_z-true}
 use Rattle.voting.proofs.Laws.Each.{pairwise}
@@ -231,3 +231,16 @@ module _ (g : VotingConfig) (height : ℕ) (t : Table) {xs ys : List Entry} (d :
 pub boundary-same : (g : VotingConfig) (height : ℕ) (t : Table) {xs ys : List Entry} → Permᴰ xs ys → Consistent xs → (vote disables : Bool)
     → Alike (boundary_of g height t xs vote disables) (boundary_of g height t ys vote disables)
 boundary-same g height t {xs} {ys} d h vote disables = separate-same g height t d (pairwise Compatible Separate separate xs h) vote disables
+
+-- what goes on after alike answers is the same: where both are refused, the old table
+pub goes-on-same : (t : Table) (x y : Result Boundary Refusal) → Alike x y → goes_on t x ≡ goes_on t y
+unfolding goes_on
+goes-on-same t (Ok a) (Ok b) p = p
+goes-on-same t (Ok a) (Err e) p = absurd p
+goes-on-same t (Err d) (Ok b) p = absurd p
+goes-on-same t (Err d) (Err e) p = refl
+
+pub boundary-goes-on-same : (g : VotingConfig) (height : ℕ) (t : Table) {xs ys : List Entry} → Permᴰ xs ys → Consistent xs → (vote disables : Bool)
+    → goes_on t (boundary_of g height t xs vote disables) ≡ goes_on t (boundary_of g height t ys vote disables)
+boundary-goes-on-same g height t {xs} {ys} d h vote disables =
+    goes-on-same t (boundary_of g height t xs vote disables) (boundary_of g height t ys vote disables) (boundary-same g height t d h vote disables)

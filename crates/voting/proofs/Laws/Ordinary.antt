@@ -7,7 +7,7 @@ use Rattle.codec.specs.Check.{and_then}
 use Rattle.voting.specs.declared.settings.VotingConfig.{VotingConfig}
 use Rattle.voting.specs.Value.{Value}
 use Rattle.std.specs.Prelude.{None, Some, Result, Ok, Err}
-use Rattle.std.specs.Result.{is_ok}
+use Rattle.std.specs.Result.{is_ok, result_unwrap_or}
 use Rattle.voting.specs.declared.table.Table.{Table}
 use Rattle.voting.specs.declared.tally.Entry.{Entry}
 use Rattle.voting.specs.Common.{Each}
@@ -77,15 +77,29 @@ module _ (P : Table → Type 0) (g : VotingConfig) (from : Table) where
       let o = then_ok (voted g from e new) (ordinary_votes g from es) q in
       votes-carry es o.0 t h.1 (voted-carries e new o.0 h.0 p o.1) o.2
 
-pub ordinary-keeps : (g : VotingConfig) (from : Table) (es : List Entry) (new t : Table) → ordinary_votes g from es new ≡ Ok t → t.fork ≡ new.fork
-ordinary-keeps g from es new t =
+-- so does the table that goes on after them: where they are refused, the one that they came with
+kept_or : (P : Table → Type 0) (r : Result Table Refusal) (new : Table) → P new → ((t : Table) → r ≡ Ok t → P t) → P (result_unwrap_or r new)
+kept_or P (Ok t) new p h = h t refl
+kept_or P (Err e) new p h = p
+
+-- the entries for the fork stay
+pub ordinary-keeps-read : (g : VotingConfig) (from : Table) (es : List Entry) (new t : Table) → ordinary_votes g from es new ≡ Ok t → t.fork ≡ new.fork
+ordinary-keeps-read g from es new t =
     votes-carry (λ t. t.fork ≡ new.fork) g from es new t (each_of (Kept (λ t. t.fork ≡ new.fork) g from) (λ e c k t y q. update-keeps t (parameter e.id) y k ∙ q) es) refl
 
+pub ordinary-keeps : (g : VotingConfig) (from : Table) (es : List Entry) (new : Table) → (result_unwrap_or (ordinary_votes g from es new) new).fork ≡ new.fork
+ordinary-keeps g from es new = kept_or (λ t. t.fork ≡ new.fork) (ordinary_votes g from es new) new refl (ordinary-keeps-read g from es new)
+
 -- votes for other parameters leave this one
-pub ordinary-stays : (g : VotingConfig) (from new t : Table) (es : List Entry) (m : ℕ) → Each (λ e. parameter e.id ≡ m → ⊥) es → ordinary_votes g from es new ≡ Ok t
+pub ordinary-stays-read : (g : VotingConfig) (from new t : Table) (es : List Entry) (m : ℕ) → Each (λ e. parameter e.id ≡ m → ⊥) es → ordinary_votes g from es new ≡ Ok t
     → lookup t m ≡ lookup new m
-ordinary-stays g from new t es m h =
+ordinary-stays-read g from new t es m h =
     votes-carry (λ t. lookup t m ≡ lookup new m) g from es new t
     (each (λ e. parameter e.id ≡ m → ⊥) (Kept (λ t. lookup t m ≡ lookup new m) g from)
     (λ e d c k t y q. lookup-update-other t (parameter e.id) m y (λ p. d (sym p)) ∙ q) es h)
     refl
+
+pub ordinary-stays : (g : VotingConfig) (from new : Table) (es : List Entry) (m : ℕ) → Each (λ e. parameter e.id ≡ m → ⊥) es
+    → lookup (result_unwrap_or (ordinary_votes g from es new) new) m ≡ lookup new m
+ordinary-stays g from new es m h =
+    kept_or (λ t. lookup t m ≡ lookup new m) (ordinary_votes g from es new) new refl (λ t. ordinary-stays-read g from new t es m h)

@@ -5,7 +5,7 @@ use Rattle.std.specs.Prelude.{Result, Ok, Err, IfErr, None, Some}
 use Rattle.std.specs.Result.{result_and}
 use Rattle.codec.specs.declared.refusal.Refusal.{Refusal}
 use Rattle.codec.specs.declared.refusal.Refusal.TheVariants.{TooManyVotes, RepeatedVote, ContradictoryVote, ForkVoteBarred, EntryDiffers, VotingLengthZero, SettingLarge, VotesCollectedAbsent}
-use Rattle.codec.specs.Check.{and_then, passed}
+use Rattle.codec.specs.Check.{Check, and_then, passed}
 use Rattle.counting.specs.Count.{count}
 use Rattle.voting.specs.Common.{eq_z}
 use Rattle.voting.specs.Settings.{voting_length, settings_large}
@@ -33,6 +33,11 @@ IsOther e = e ≡ EntryDiffers → ⊥
 abbrev pub Other : {A : Type 0} → Result A Refusal → Type 0
 Other r = IfErr r IsOther
 
+-- of two checks in order: what holds of both
+pub first_by : (P : Check → Type 0) (r s : Check) → P r → P s → P (result_and r s)
+first_by P (Ok tt) s p q = q
+first_by P (Err e) s p q = p
+
 -- of two answers in order, and of what goes on after one
 module _ {A B : Type 0} where
   pub and-other : (r : Result A Refusal) (s : Result B Refusal) → Other r → Other s → Other (result_and r s)
@@ -43,28 +48,32 @@ module _ {A B : Type 0} where
   then-other (Ok x) next p q = q x
   then-other (Err e) next p q = p
 
--- the header check: 9 to 11
-fault-other : (all : List ℤ) (v : ℤ) → Other (fault all v)
-unfolding fault
-fault-other all v = go (ltb 1 (count (eq_z v) all)) (ltb 0 (count (eq_z (negation v)) all))
-  where
-    go : (a b : Bool) → Other (cond a (Err RepeatedVote) (cond b (Err ContradictoryVote) passed))
-    go true b = λ q. cc
-    go false true = λ q. cc
-    go false false = tt
+-- the header check: what holds of an answer that passes and of the refusals 9 to 11
+module _ (P : Check → Type 0) (none : P passed) (many : P (Err TooManyVotes)) (repeated : P (Err RepeatedVote)) (contradictory : P (Err ContradictoryVote)) where
+  fault-by : (all : List ℤ) (v : ℤ) → P (fault all v)
+  unfolding fault
+  fault-by all v = go (ltb 1 (count (eq_z v) all)) (ltb 0 (count (eq_z (negation v)) all))
+    where
+      go : (a b : Bool) → P (cond a (Err RepeatedVote) (cond b (Err ContradictoryVote) passed))
+      go true b = repeated
+      go false true = contradictory
+      go false false = none
 
-faults-other : (all vs : List ℤ) → Other (fault_in all vs)
-unfolding fault_in
-faults-other all [] = tt
-faults-other all (v ∷ vs) = and-other (fault all v) (fault_in all vs) (fault-other all v) (faults-other all vs)
+  faults-by : (all vs : List ℤ) → P (fault_in all vs)
+  unfolding fault_in
+  faults-by all [] = none
+  faults-by all (v ∷ vs) = first_by P (fault all v) (fault_in all vs) (fault-by all v) (faults-by all vs)
+
+  pub header-by : (bytes : List ℕ) → P (check_header_votes bytes)
+  unfolding check_header_votes check_votes
+  header-by bytes = go (ltb 2 (count ordinary_vote (votes_in bytes)))
+    where
+      go : (a : Bool) → P (cond a (Err TooManyVotes) (fault_in (votes_in bytes) (votes_in bytes)))
+      go true = many
+      go false = faults-by (votes_in bytes) (votes_in bytes)
 
 pub header-other : (bytes : List ℕ) → Other (check_header_votes bytes)
-unfolding check_header_votes check_votes
-header-other bytes = go (ltb 2 (count ordinary_vote (votes_in bytes)))
-  where
-    go : (a : Bool) → Other (cond a (Err TooManyVotes) (fault_in (votes_in bytes) (votes_in bytes)))
-    go true = λ q. cc
-    go false = faults-other (votes_in bytes) (votes_in bytes)
+header-other = header-by Other tt (λ q. cc) (λ q. cc) (λ q. cc)
 
 -- the fork check: 12, 18 and 19
 round-other : (g : VotingConfig) (height : ℕ) (start votes : Value) → Other (check_round g height start votes)

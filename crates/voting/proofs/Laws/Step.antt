@@ -1,11 +1,12 @@
 -- The arithmetic of the steps: the three lists are small, and a step fits 32 bits.
 -- Assumes nothing.
-use Rattle.std.proofs.Common.{◌≡◌, ℕ, zero, suc, ◌+◌, ◌-◌, ◌/◌, ◌^◌, ◌<◌, ◌≤◌, Bool, true, false, cond, ltb, leb, List, [], ◌∷◌, get_or, ℤ, pos, negsuc, ◌+ℤ◌, ◌-ℤ◌, neg_ℤ, refl, ap, arith, w32, SFits, ltb-true, lt-ltb, leb-true}
+use Rattle.std.proofs.Common.{◌≡◌, ℕ, zero, suc, ◌+◌, ◌-◌, ◌/◌, ◌^◌, ◌<◌, ◌≤◌, Bool, true, false, cond, ltb, leb, List, [], ◌∷◌, get_or, ℤ, pos, negsuc, ◌+ℤ◌, ◌-ℤ◌, neg_ℤ, refl, ap, ◌∙◌, arith, w32, SFits, to_z, of_z, ltb-true, lt-ltb, leb-true}
 use mathlib.Core.Path.{subst⁻¹}
 use mathlib.Core.Bool.{false≢true}
 use lib.IntN.{sub_ℕ}
 use lib.Signed.{mag, lt_z}
-use Rattle.voting.specs.Ordinary.{least, greatest, steps, least_of, greatest_of, fixed_step_of, hundredth, step_size}
+use mir.ValLaws.{to_z-of_z}
+use Rattle.voting.specs.Ordinary.{least, greatest, steps, least_of, greatest_of, fixed_step_of, hundredth, step_size, raised, lowered}
 use Rattle.voting.proofs.Laws.Tests.{both, every}
 
 -- a bound on each number of a list, by one computed test
@@ -79,3 +80,23 @@ down_fits z g s f b t k = subst⁻¹ (λ (y : ℤ). SFits w32 (z -ℤ y)) k.is (
 
 pub sized : (m : ℕ) (z s : ℤ) → s ≡ step_size (fixed_step_of m) z → Size z s
 sized m z s e = subst⁻¹ (Size z) e (size_is (fixed_step_of m) z (step_small m))
+
+-- The needs of `a + b` or `a - b` at i32, where the result is y
+abbrev pub Sum : (ℤ → ℤ → ℤ) → ℤ → ℤ → ℤ → Type 0
+Sum op a b y = SFits w32 (op (to_z w32 (of_z w32 a)) (to_z w32 (of_z w32 b))) × (to_z w32 (of_z w32 (op (to_z w32 (of_z w32 a)) (to_z w32 (of_z w32 b)))) ≡ y)
+
+sum_back : (op : ℤ → ℤ → ℤ) (a b : ℤ) → SFits w32 a → SFits w32 b → SFits w32 (op a b) → Sum op a b (op a b)
+sum_back op a b f g h = rw (to_z-of_z w32 a f, to_z-of_z w32 b g) (h, to_z-of_z w32 (op a b) h)
+
+-- a step of a parameter, up and down, where its test passed
+pub up_step : (m : ℕ) (z s : ℤ) → SFits w32 z → SFits w32 s → s ≡ step_size (fixed_step_of m) z → lt_z z (greatest_of m) ≡ true → Sum ◌+ℤ◌ z s (raised m z)
+unfolding raised
+up_step m z s f g e t =
+    let r = sum_back ◌+ℤ◌ z s f g (up_fits z (greatest_of m) s f (greatest-small m) t (sized m z s e)) in
+    (r.0, r.1 ∙ rw (t, e))
+
+pub down_step : (m : ℕ) (z s : ℤ) → SFits w32 z → SFits w32 s → s ≡ step_size (fixed_step_of m) z → lt_z (least_of m) z ≡ true → Sum ◌-ℤ◌ z s (lowered m z)
+unfolding lowered
+down_step m z s f g e t =
+    let r = sum_back ◌-ℤ◌ z s f g (down_fits z (least_of m) s f (least-small m) t (sized m z s e)) in
+    (r.0, r.1 ∙ rw (t, e))

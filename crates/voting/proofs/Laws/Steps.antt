@@ -28,7 +28,7 @@ use Rattle.voting.proofs.Laws.Header.{alike-bytes}
 use Rattle.voting.proofs.Laws.Tally.{tally-counts}
 use Rattle.voting.proofs.Laws.Table.{lookup-known, lookup-update-same, lookup-update-other}
 use Rattle.voting.proofs.Laws.Step.{Size, sized}
-use Rattle.voting.proofs.Laws.Ordinary.{by-vote, voted-carries, ordinary-stays}
+use Rattle.voting.proofs.Laws.Ordinary.{by-vote, voted-carries, ordinary-stays-read}
 use Rattle.voting.proofs.Laws.Boundary.{passes}
 use Rattle.voting.proofs.Laws.Order.{Separate, separate}
 use Rattle.voting.proofs.Laws.Seeded.{tally-consistent}
@@ -130,7 +130,7 @@ module _ (g : VotingConfig) (q : ℕ) (z : ℤ) where
         (λ i.
         let p = eqb-true (parameter e.id) (suc q) i in
         let others = rest-other e es p s.0 in
-        subst (By (e ∷ es)) (sym (ordinary-stays g from o.0 t es (suc q) others o.2 ∙ voted-here e new o.0 p h o.1)) (here small es others e.id e.count p))
+        subst (By (e ∷ es)) (sym (ordinary-stays-read g from o.0 t es (suc q) others o.2 ∙ voted-here e new o.0 p h o.1)) (here small es others e.id e.count p))
         (λ i.
         let other = eqb-false (parameter e.id) (suc q) i in
         elsewhere e es (lookup t (suc q)) other (votes-move es s.1 o.0 t (voted-other e new o.0 other h o.1) o.2))
