@@ -1,6 +1,6 @@
 -- A window in cells: what its calls answer and leave, for every window and all cells. docs/RULES.md, "Support", "In cells".
 -- Assumes nothing.
-use Rattle.std.specs.Prelude.{Result, Ok, Err, ℕ, ◌+◌, ◌*◌, ◌%◌, cond, ◌&&◌, List, ◌++◌, length, drop, replicate, ◌==◌, nat_le, nat_lt, slice_index, slice_set}
+use Rattle.std.specs.Prelude.{Result, Ok, Err, is_err, ◌≡◌, true, ℕ, ◌+◌, ◌*◌, ◌%◌, cond, ◌&&◌, List, ◌++◌, length, drop, replicate, ◌==◌, nat_le, nat_lt, slice_index, slice_set}
 use Rattle.codec.specs.declared.refusal.Refusal.TheVariants.{OutputShort, WindowLengthOutside}
 use Rattle.std.specs.Result.{result_and}
 use Rattle.codec.specs.declared.refusal.Refusal.{Refusal}
@@ -46,6 +46,11 @@ new_by (Err e) n cells = left (Err e) cells
 unfoldable pub new_of : ℕ → List ℕ → Left
 new_of n cells = new_by (check_new n (length cells)) n cells
 
+-- the window that was made. Refused: one of length 0, which takes no header
+unfoldable pub made : Result Window Refusal → Window
+made (Ok w) = w
+made (Err e) = empty 0
+
 -- ---- a header is put
 
 -- a number is added to the support of an id, in 16 bits; 0 is no vote
@@ -89,3 +94,7 @@ put_by (Err e) w cells votes = left (Err e) cells
 
 unfoldable pub put_of : Window → List ℕ → List ℕ → Left
 put_of w cells votes = put_by (check_put w (length cells) votes) w cells votes
+
+-- a window that takes no header: each put is refused
+abbrev pub Closed : Window → Type 0
+Closed w = (cells votes : List ℕ) → is_err (put_of w cells votes).answer ≡ true

@@ -1,7 +1,7 @@
 // A running window over the last headers, and the support of each id in it. docs/RULES.md, "Support".
-ghost use Rattle.std.specs.Prelude.{◌≡◌, ◌+◌, ◌%◌, ◌<◌, ◌≤◌, ◌&&◌, ◌++◌, length, drop, replicate, if◌then◌else◌, ◌==◌, nat_eq, slice_index};
+ghost use Rattle.std.specs.Prelude.{◌≡◌, OnErr, ◌+◌, ◌%◌, ◌<◌, ◌≤◌, ◌&&◌, ◌++◌, length, drop, replicate, if◌then◌else◌, ◌==◌, nat_eq, slice_index};
 ghost use Rattle.voting.specs.Header.{check_header_votes};
-ghost use Rattle.support.specs.Window.{cell_of, left, check_room, empty, check_new, new_of, added, one_more, one_less, replaced, entered, more_held, place_after, onward, check_put, put_of};
+ghost use Rattle.support.specs.Window.{cell_of, left, check_room, empty, check_new, new_of, added, one_more, one_less, replaced, entered, more_held, place_after, onward, check_put, put_of, made, Closed};
 ghost use Rattle.support.specs.Kept.{SupportKept};
 
 use codec::refusal::Refusal;
@@ -31,6 +31,14 @@ pub fn new(length: u32, cells: &mut [u16]) -> Result<Window, Refusal>
     let n = length as u16;
     clear(cells, cell_of(n));
     Ok(empty(n))
+}
+
+// The window that was made. Refused: one of length 0, which takes no header.
+pub fn made(answer: Result<Window, Refusal>) -> Window
+    ensures value { result ≡ made answer }
+    ensures closed { OnErr answer (Closed result) }
+{
+    answer.unwrap_or(empty(0))
 }
 
 impl Window {

@@ -6,7 +6,8 @@ use Rattle.std.proofs.lemmas.Bool.Decides.{nat_tests}
 use mir.Val.{bool_byte}
 use mathlib.Core.Bool.{not}
 use Prim.Native.Nat.{◌-◌, ◌*◌}
-use Rattle.std.specs.Prelude.{Ok, Err}
+use Rattle.std.specs.Prelude.{Result, Ok, Err, is_err, OnErr}
+use Rattle.std.specs.Result.{result_and, result_unwrap_or}
 use Rattle.codec.specs.declared.refusal.Refusal.{Refusal}
 use Rattle.codec.specs.declared.refusal.Refusal.TheVariants.{OutputShort, WindowLengthOutside}
 use Rattle.codec.specs.Check.{Check, passed}
@@ -15,7 +16,7 @@ use Rattle.counting.specs.Count.{count}
 use Rattle.voting.specs.Header.{votes_in, fault_in, check_votes, check_header_votes}
 use Rattle.voting.proofs.Laws.Tests.{both, and-stop, and-pass, and-passed}
 use Rattle.support.specs.declared.window.Window.{Window}
-use Rattle.support.specs.Window.{length_most, cell_of, left, check_room, empty, check_new, new_by, new_of, added, one_more, one_less, replaced, entered, more_held, place_after, onward, check_put, put_by, put_of}
+use Rattle.support.specs.Window.{length_most, cell_of, left, check_room, empty, check_new, new_by, new_of, made, added, one_more, one_less, replaced, entered, more_held, place_after, onward, check_put, put_by, put_of, Closed}
 
 -- ---- the cells
 
@@ -149,6 +150,9 @@ place_inside w room at r e = let p = r.place in let n = r.enough in (omega arith
 le_is : (a b : ℕ) → leb a b ≡ is_le (nat_cmp a b)
 le_is a b = grind (arith, nat_tests)
 
+pub length_most_lem : (n : ℕ) → leb 1 n && leb n length_most ≡ true → n ≤ length_most
+length_most_lem n t = leb-true n length_most (both (leb 1 n) (leb n length_most) t).1
+
 pub length-test : (n a b : ℕ) (t x : Bool) → a ≡ 1 → b ≡ length_most → x ≡ false → t ≡ (is_le (nat_cmp a n) && cond x (is_lt (nat_cmp n b)) (is_le (nat_cmp n b))) → leb 1 n && leb n length_most ≡ t
 length-test n a b t x p q r e = rw (le_is 1 n, le_is n length_most) (sym (rw (p, q, r) at e))
 
@@ -197,3 +201,20 @@ module _ (w : Window) (cells votes : List ℕ) {r : Check} (is-r : r ≡ check_p
   pub put-enters : r ≡ passed → (v : Window) → v ≡ onward w → (at : ℕ) → at ≡ cell_of w.oldest → (after : List ℕ) → after ≡ entered cells at votes → left (Ok v) after ≡ put_of w cells votes
   unfolding put_of put_by
   put-enters q v f at is_at after g = rw (← is-r, q, f, g, is_at)
+
+-- ---- the window that was made
+
+pub made-is : (r : Result Window Refusal) {none : Window} → ((e : Refusal) → none ≡ made (Err e)) → result_unwrap_or r none ≡ made r
+unfolding made
+made-is (Ok w) q = refl
+made-is (Err e) q = q e
+
+-- refused, it takes no header
+pub refused-closed : (r : Result Window Refusal) → OnErr r (Closed (made r))
+unfolding made put_of put_by check_put check_room
+refused-closed (Ok w) = tt
+refused-closed (Err k) = λ cells votes. go cells votes (check_header_votes votes)
+  where
+    go : (cells votes : List ℕ) (r : Check) → is_err (put_by (result_and r (check_room (made (Err k)) (length cells))) (made (Err k)) cells votes).answer ≡ true
+    go cells votes (Ok tt) = refl
+    go cells votes (Err e) = refl
