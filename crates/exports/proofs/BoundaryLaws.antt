@@ -11,7 +11,7 @@ use Rattle.voting.specs.declared.tally.Entry.{Entry}
 use Rattle.voting.specs.Order as order
 use Rattle.extension.specs.declared.boundary.Computed.{Computed}
 use Rattle.extension.specs.declared.parameters.Mismatch.{Mismatch}
-use Rattle.extension.specs.Order.{SameOutcome, InAnyOrder}
+use Rattle.extension.specs.Order.{InAnyOrder}
 use Rattle.lent.specs.declared.boundary.BoundaryAt.{BoundaryAt}
 use Rattle.wire.specs.Boundary.{question_of, computed_bytes}
 use Rattle.exports.specs.Reply.{Reply, reply, numbered, answered, with_id, Told}
@@ -34,8 +34,8 @@ no-parameter : (e : Refusal) → order.NoParameter e → NoParameter (number e)
 no-parameter e (inl q) = inl (ap number q)
 no-parameter e (inr q) = inr (ap number q)
 
--- the same outcome, written
-same-reply : (x y : Result Computed Refusal) (cells : List ℕ) → SameOutcome x y → SameReply (numbered (into computed_bytes x cells)) (numbered (into computed_bytes y cells))
+-- the same answer, written
+same-reply : (x y : Result Computed Refusal) (cells : List ℕ) → order.Alike x y → SameReply (numbered (into computed_bytes x cells)) (numbered (into computed_bytes y cells))
 unfolding into answered
 same-reply (Ok x) (Ok y) cells o = subst (SameReply (numbered (into computed_bytes (Ok x) cells))) (ap (λ (z : Computed). numbered (into computed_bytes (Ok z) cells)) o) (same_self (numbered (into computed_bytes (Ok x) cells)))
 same-reply (Ok x) (Err e) cells o = absurd o
@@ -57,7 +57,7 @@ module _ (tally : List Entry) (update q cells after : List ℕ) (r : ℕ) (a : B
   unfolding boundary_of computed_by
   in-any any consistent other moved =
       subst₂ SameReply (sym h) (ap (λ (b : BoundaryAt). numbered (into computed_bytes (computed_by b other update) cells)) p)
-      (same-reply c (computed_by a other update) cells (any consistent other moved))
+      (same-reply c (computed_by a other update) cells (any consistent other moved).answer)
 
   pub boundary-is : Promised a tally update c
       → (reply r after ≡ numbered (into computed_bytes (boundary_of tally update q) cells)) × RepliesInAnyOrder tally update q cells (reply r after)

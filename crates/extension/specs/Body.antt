@@ -10,6 +10,7 @@ use Rattle.codec.specs.declared.refusal.Refusal.{Refusal}
 use Rattle.codec.specs.Check.{Check, passed}
 use Rattle.extension.specs.declared.section.Section.{Section}
 use Rattle.extension.specs.declared.body.FieldPlace.{FieldPlace}
+use Rattle.extension.specs.declared.body.Head.{Head}
 use Rattle.extension.specs.Section.{Reading, got, bad, listing, closed, section_items, part, any}
 
 -- the key's two bytes, and the value
@@ -43,6 +44,15 @@ fields_from body (Some m) = closed m.value m.next (listing (read_field body) m.v
 unfoldable pub extension_of : List ℕ → Result Section Refusal
 extension_of body =
     cond (ltb 65536 (length body)) (Err InputLong) (cond (ltb (length body) 32) (Err BodyShort) (fields_from body (vlq_at 32 body 32)))
+
+-- what stands before a body's fields: how many they are, and where the first begins; or 22, 1, 2
+unfoldable pub head_by : Option Number → Result Head Refusal
+head_by None = Err CountUnreadable
+head_by (Some m) = Ok (record { count = m.value; begin = m.next })
+
+unfoldable pub head_of : List ℕ → Result Head Refusal
+head_of body =
+    cond (ltb 65536 (length body)) (Err InputLong) (cond (ltb (length body) 32) (Err BodyShort) (head_by (vlq_at 32 body 32)))
 
 -- the fields of a body; none where it is refused
 unfoldable pub fields_in : List ℕ → Result Section Refusal → List Field

@@ -1,6 +1,7 @@
 -- The boundary with the bytes of the proposed settings update. docs/RULES.md, "Boundary".
 -- Assumes nothing.
-use Rattle.std.specs.Prelude.{ℕ, Bool, cond, List, Result, Ok}
+use Rattle.std.specs.Prelude.{ℕ, Bool, cond, List, Result, Ok, Err}
+use Rattle.voting.specs.ForkPart.{no_round}
 use Rattle.voting.specs.Boundary.{boundary_of}
 use Rattle.voting.specs.declared.settings.VotingConfig.{VotingConfig}
 use Rattle.voting.specs.declared.table.Table.{Table}
@@ -25,3 +26,9 @@ unfoldable pub computed_of : VotingConfig → ℕ → Table → List Entry → B
 computed_of g height t tally vote s =
     and_then (update_of s)
     (λ u. and_then (boundary_of g height t tally vote (disables s u subblocks_rule)) (λ b. Ok (activates u b)))
+
+-- What goes on after a boundary that was answered so, from the old table. Refused: the old table, nothing happens to a round, and no update is
+-- activated
+unfoldable pub goes_on : Table → Result Computed Refusal → Computed
+goes_on t (Ok x) = x
+goes_on t (Err e) = record { table = t; round = no_round; activated = no_update }

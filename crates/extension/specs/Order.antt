@@ -13,16 +13,18 @@ use Rattle.voting.specs.Settings.{settings}
 use Rattle.voting.specs.Table.{fork_entries}
 use Rattle.voting.specs.Order.{Consistent, Alike}
 use Rattle.extension.specs.declared.boundary.Computed.{Computed}
-use Rattle.extension.specs.Boundary.{computed_of}
+use Rattle.extension.specs.Boundary.{computed_of, goes_on}
 
--- the same table, the same of a round and the same activated update; or the same refusal; or each is refused by 13 or 14
-abbrev pub SameOutcome : Result Computed Refusal → Result Computed Refusal → Type 0
-SameOutcome = Alike
+-- two answers from one old table: the same one, whether it is a refusal or not, or each is refused by 13 or 14; and in any case the same table
+-- goes on, with the same of a round and the same activated update
+pub record SameOutcome (t : Table) (x y : Result Computed Refusal) : Type 0 where
+  pub answer : Alike x y
+  pub onward : goes_on t x ≡ goes_on t y
 
 -- the answer r to a tally in which no entry repeats or contradicts another, beside the answer to every rearrangement of it
 abbrev pub InAnyOrder : VotingConfig → ℕ → Table → List Entry → Bool → List ℕ → Result Computed Refusal → Type 0
 InAnyOrder g height t tally vote s r =
-    Consistent tally → (other : List Entry) → Permᴰ tally other → SameOutcome r (computed_of g height t other vote s)
+    Consistent tally → (other : List Entry) → Permᴰ tally other → SameOutcome t r (computed_of g height t other vote s)
 
 -- ---- where two entries are for one parameter, the order does matter
 
@@ -49,6 +51,6 @@ pub record OrderMatters : Type 0 where
   pub exchanged : Permᴰ (once (negsuc 0) ∷ once (pos 1) ∷ []) (once (pos 1) ∷ once (negsuc 0) ∷ [])
   pub down-then-up : table_of (at_one (once (negsuc 0) ∷ once (pos 1) ∷ [])) ≡ Ok (only_first (pos 2500000))
   pub up-then-down : table_of (at_one (once (pos 1) ∷ once (negsuc 0) ∷ [])) ≡ Ok (only_first (pos 2475000))
-  pub not-the-same : SameOutcome (at_one (once (negsuc 0) ∷ once (pos 1) ∷ [])) (at_one (once (pos 1) ∷ once (negsuc 0) ∷ [])) → ⊥
+  pub not-the-same : Alike (at_one (once (negsuc 0) ∷ once (pos 1) ∷ [])) (at_one (once (pos 1) ∷ once (negsuc 0) ∷ [])) → ⊥
   pub unknown-then-absent : at_one (once (pos 10) ∷ once (pos 2) ∷ []) ≡ Err UnknownParameter
   pub absent-then-unknown : at_one (once (pos 2) ∷ once (pos 10) ∷ []) ≡ Err AbsentParameter

@@ -3,7 +3,7 @@ ghost use Rattle.std.specs.Prelude.{◌≡◌, ◌≤◌, length, OnOk};
 ghost use Rattle.codec.specs.Check.{and_then};
 ghost use Rattle.extension.specs.Section.{listing, closed, section_items, any};
 ghost use Rattle.extension.specs.Pack.{BodyAgain};
-ghost use Rattle.extension.specs.Body.{field_at, read_field, extension_of, header_id, body_field, field_value, update_key, parameter_key, update_in, proposed_update, wrong_size, wrong_parameter, check_body};
+ghost use Rattle.extension.specs.Body.{field_at, read_field, extension_of, head_of, header_id, body_field, field_value, update_key, parameter_key, update_in, proposed_update, wrong_size, wrong_parameter, check_body};
 
 use crate::section::Section;
 use codec::refusal::Refusal;
@@ -46,6 +46,7 @@ pub fn parse_extension_bytes(body: &[u8]) -> Result<Section, Refusal>
 
 // For the layers above: what stands before a body's fields; or 22, 1, 2.
 pub fn read_head(body: &[u8]) -> Result<Head, Refusal>
+    ensures head { result ≡ head_of body.now }
     ensures short { OnOk result (length body.now ≤ 65536) }
     ensures value { and_then result (λ h. closed h.count h.begin (listing (read_field body.now) h.count h.begin)) ≡ extension_of body.now }
 {

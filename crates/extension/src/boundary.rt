@@ -1,7 +1,7 @@
 // The boundary with the bytes of the proposed settings update. docs/RULES.md, "Boundary".
 ghost use Rattle.std.specs.Prelude.{◌≡◌};
 ghost use Rattle.voting.specs.Tally.{entries};
-ghost use Rattle.extension.specs.Boundary.{activates, computed_of};
+ghost use Rattle.extension.specs.Boundary.{activates, computed_of, goes_on};
 ghost use Rattle.extension.specs.Examples.{Examples};
 
 use crate::update;
@@ -52,4 +52,21 @@ pub fn activates(u: Update, b: Boundary) -> Computed
         round: b.round,
         activated: if b.round.rose { u } else { update::no_update() },
     }
+}
+
+// What goes on after a boundary from an old table: what it computed; refused, the old table, nothing happens to a round, and no update is
+// activated.
+pub fn goes_on(table: Table, answer: Result<Computed, Refusal>) -> Computed
+    ensures { result ≡ goes_on table answer }
+{
+    answer.unwrap_or(Computed {
+        table,
+        round: Round {
+            opened: false,
+            closed: false,
+            rose: false,
+            total: None,
+        },
+        activated: update::no_update(),
+    })
 }

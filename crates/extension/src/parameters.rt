@@ -64,7 +64,7 @@ fn parameters_in(body: &[u8], fields: Section) -> ParameterMap
     for _ in 0..fields.count {
         match body::read_field(body, at) {
             Ok(f) => {
-                m = take_field(m, f.key0, f.key1, &body[f.start..f.end]);
+                take_field(&mut m, f.key0, f.key1, &body[f.start..f.end]);
                 at = f.end;
             }
             Err(_) => break,
@@ -74,12 +74,12 @@ fn parameters_in(body: &[u8], fields: Section) -> ParameterMap
 }
 
 // One field: stored if it is a parameter.
-fn take_field(m: ParameterMap, key0: u8, key1: u8, v: &[u8]) -> ParameterMap
-    ensures { result ≡ taken (record { key0 = key0; key1 = key1; value = v.now }) m }
+fn take_field(m: &mut ParameterMap, key0: u8, key1: u8, v: &[u8])
+    ensures { m.new ≡ taken (record { key0 = key0; key1 = key1; value = v.now }) m.old }
 {
-    match *v {
-        [a, b, c, d] if body::parameter_key(key0, key1) => m.with(key1, number_in(a, b, c, d)),
-        _ => m,
+    let [a, b, c, d] = *v else { return };
+    if body::parameter_key(key0, key1) {
+        m.entries[key1 as usize] = number_in(a, b, c, d);
     }
 }
 

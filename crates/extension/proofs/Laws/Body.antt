@@ -18,7 +18,7 @@ use Rattle.codec.specs.declared.vlq.Number.{Number}
 use Rattle.extension.specs.declared.section.Section.{Section}
 use Rattle.extension.specs.declared.body.FieldPlace.{FieldPlace}
 use Rattle.extension.specs.Section.{got, bad, listing, closed, section_items, part, any}
-use Rattle.extension.specs.Body.{Field, field_at, field_reading, read_field, fields_from, extension_of, fields_in, fields_of, id_in, header_id, body_field, value_of, field_value, update_key, update_in, proposed_update, wrong_size, wrong_parameter, check_sizes, check_body}
+use Rattle.extension.specs.Body.{Field, field_at, field_reading, read_field, fields_from, extension_of, head_by, head_of, fields_in, fields_of, id_in, header_id, body_field, value_of, field_value, update_key, update_in, proposed_update, wrong_size, wrong_parameter, check_sizes, check_body}
 use Rattle.voting.proofs.Laws.Tests.{by-test}
 use Rattle.extension.proofs.Laws.Parts.{part_length}
 
@@ -109,6 +109,26 @@ module _ (s : List ℕ) where
           → closed m.value m.next (listing (read_field s) m.value m.next) ≡ extension_of s
       unfolding extension_of fields_from
       body-counted m e = rw (le-ltb _ _ h, le-ltb _ _ l, ← e)
+
+-- what stands before its fields, by the same tests
+module _ (s : List ℕ) where
+  pub head-long : 65536 < length s → Err InputLong ≡ head_of s
+  unfolding head_of
+  head-long h = rw (lt-ltb _ _ h)
+
+  module _ (h : length s ≤ 65536) where
+    pub head-short : length s < 32 → Err BodyShort ≡ head_of s
+    unfolding head_of
+    head-short l = rw (le-ltb _ _ h, lt-ltb _ _ l)
+
+    module _ (l : 32 ≤ length s) where
+      pub head-uncounted : None ≡ vlq_at 32 s 32 → Err CountUnreadable ≡ head_of s
+      unfolding head_of head_by
+      head-uncounted e = rw (le-ltb _ _ h, le-ltb _ _ l, ← e)
+
+      pub head-counted : (m : Number) → Some m ≡ vlq_at 32 s 32 → Ok (record { count = m.value; begin = m.next }) ≡ head_of s
+      unfolding head_of head_by
+      head-counted m e = rw (le-ltb _ _ h, le-ltb _ _ l, ← e)
 
 -- a body that is read has room for its id, and a count
 pub record Opened (body : List ℕ) : Type 0 where

@@ -2,8 +2,8 @@
 -- Assumes nothing.
 use mathlib.Core.Path.{◌≡◌, refl, sym, ap, subst}
 use mathlib.Core.Bool.{Bool, true, false, cond, ◌||◌}
-use mathlib.Core.List.{List, []}
-use Prim.Native.Nat.{ℕ, ◌+◌, ◌≤◌, ◌<◌}
+use mathlib.Core.List.{List, [], ◌∷◌}
+use Prim.Native.Nat.{ℕ, ◌+◌, ◌-◌, ◌≤◌, ◌<◌}
 use native.Mathlib.Omega.{arith}
 use borrow.Author.Tests.{lt-ltb, le-ltb, ltb-false, eq-eqb, ne_eqb}
 use lib.Dec.{ltb, eqb}
@@ -30,7 +30,7 @@ use Rattle.extension.specs.Section.{Reading, got, bad, Listing, done, item, list
 use Rattle.extension.specs.Mandatory.{mandatory_rule}
 use Rattle.extension.specs.Update.{placed_rule, rule_at, rule_reading, read_rule, Status, placed_status, offset_then, status_at, status_reading, read_status, update_rule, update_status, raw_of, status_raw, count_in, items_from, no_update, with_rules, update_of, rules_in, disables, proposed_of}
 use Rattle.extension.specs.Rules.{surveyed, rules_of}
-use Rattle.extension.proofs.Laws.Section.{no_items}
+use Rattle.extension.proofs.Laws.Section.{listing-stop, listing-item, items-stop, items-item, no_items}
 
 -- the rule at a position
 module _ (s : List ℕ) (at : ℕ) where
@@ -49,6 +49,14 @@ module _ (s : List ℕ) (at : ℕ) where
   pub rule-unread : (e : Refusal) → Err e ≡ rule_at s at → read_rule s at ≡ bad e
   unfolding read_rule rule_reading
   rule-unread e q = rw (← q)
+
+  -- the rules that are left, by the one read here
+  module _ (n : ℕ) (h : 0 < n) where
+    pub rule-listed : (x : RulePlace) → Ok x ≡ rule_at s at → items (listing (read_rule s) n at) ≡ x.id ∷ items (listing (read_rule s) (n - 1) x.next)
+    rule-listed x e = items-item _ _ _ (listing-item (read_rule s) n at h x.id x.next (rule-read x e))
+
+    pub rule-ends : (e : Refusal) → Err e ≡ rule_at s at → items (listing (read_rule s) n at) ≡ []
+    rule-ends e q = items-stop _ _ (listing-stop (read_rule s) n at h e (rule-unread e q))
 
   pub rule-long : 65536 < length s → Err InputLong ≡ update_rule s at
   unfolding update_rule

@@ -1,6 +1,6 @@
 -- The sizes of what is handed over in one list of bytes, from a position on.
 -- Assumes nothing.
-use Rattle.std.proofs.Common.{◌≡◌, ℕ, zero, suc, ◌+◌, ◌-◌, ◌<◌, ◌≤◌, Bool, true, false, not, eqb, List, [], ◌∷◌, length, get_or, take, drop, refl, ap, add-one, arith, drop_of_length-le, drop-cons, ne_eqb}
+use Rattle.std.proofs.Common.{◌≡◌, ℕ, zero, suc, ◌+◌, ◌-◌, ◌*◌, ◌<◌, ◌≤◌, Bool, true, false, not, eqb, List, [], ◌∷◌, length, get_or, take, drop, refl, ap, mul-suc, add-one, arith, drop_of_length-le, drop-cons, ne_eqb}
 use Rattle.std.specs.List.{list_any, All}
 use Rattle.voting.proofs.Laws.Tests.{neither, eqb-iff, eqb_comm}
 use Rattle.extension.specs.Section.{any}
@@ -24,6 +24,15 @@ module _ (p : ℕ → Bool) (k : ℕ) (most : (n : ℕ) → p n ≡ false → n 
   none_above [] i e = omega arith
   none_above (n ∷ ns) zero e = most n (neither (p n) (any p ns) e).0
   none_above (n ∷ ns) (suc i) e = none_above ns i (neither (p n) (any p ns) e).1
+
+  -- and the sum is at most the bound for each
+  pub sum-most : (ns : List ℕ) → any p ns ≡ false → sum ns ≤ k * length ns
+  unfolding any sum
+  sum-most [] e = omega arith
+  sum-most (n ∷ ns) e =
+      let b = neither (p n) (any p ns) e in
+      let m : k * suc (length ns) ≡ k * length ns + k = mul-suc k (length ns) in
+      omega (arith, m, most n b.0, sum-most ns b.1)
 
 -- the sum of the sizes, from a position on
 module _ (ns : List ℕ) (i : ℕ) where

@@ -22,7 +22,7 @@ pub returns-in-Err : goal.returns-in-Err
 returns-in-Err c = parameters-none _ _ (items-stop _ _ (left-stop _ _ _ _ c.loop-test.true _ (field-unread _ _ _ (sym c.in-Err.is ∙ c.read_field.ensures)))) ∙ c.loop.invariant
 
 pub loop-preserved : goal.loop-preserved
-loop-preserved c = parameters-next _ _ _ _ _ (items-item _ _ _ (left-item _ _ _ _ c.loop-test.true _ _ (field-read _ _ _ (sym c.in-Ok.is ∙ c.read_field.ensures)))) c.take_field-m.ensures
+loop-preserved c = parameters-next _ _ _ _ _ (items-item _ _ _ (left-item _ _ _ _ c.loop-test.true _ _ (field-read _ _ _ (sym c.in-Ok.is ∙ c.read_field.ensures)))) c.take_field.ensures
     ∙ c.loop.invariant
 
 pub returns-after-loop : goal.returns-after-loop
