@@ -115,6 +115,11 @@ unfoldable pub open_of : ℕ → Table → Result Replay Refusal
 open_of height t =
     cond (may_open height) (Ok (record { settings = mainnet; table = t; next = height; tally = no_tally })) (Err HeightUnexpected)
 
+-- the state that an opening with a table gives. Refused: one that expects a height that no epoch reaches
+unfoldable pub opened : Table → Result Replay Refusal → Replay
+opened t (Ok s) = s
+opened t (Err e) = record { settings = mainnet; table = t; next = 2 ^ 31; tally = no_tally }
+
 -- the first three tests of `on_parts`, taken together, for the function that makes them
 unfoldable pub check_early : Replay → ℕ → List ℕ → Check
 check_early s height votes =
@@ -125,6 +130,11 @@ abbrev pub Exhausted : Replay → List ℕ → Result Replay Rejection → Type 
 Exhausted s xs r =
     2 ^ 31 < s.next + voting_length s.settings
     → (p : RecordPlace) → record_at xs (votes_size s.settings) ≡ Ok p → p.end ≡ length xs → r ≡ Err (Refused HeightUnexpected)
+
+-- a state that turns every well-formed record down by 26
+abbrev pub Closed : Replay → Type 0
+Closed s =
+    (xs : List ℕ) (p : RecordPlace) → record_at xs (votes_size s.settings) ≡ Ok p → p.end ≡ length xs → replay_of s xs ≡ Err (Refused HeightUnexpected)
 
 -- a record with nothing after it, and what is so of the table that its boundary computes and of the parameters of its body
 pub record OfRecord (s : Replay) (xs : List ℕ) (Holds : Table → ParameterMap → Type 0) : Type 0 where

@@ -18,7 +18,10 @@ use Rattle.archive.specs.declared.record.Unread.{Unread}
 use Rattle.archive.specs.declared.replay.Replay.{Replay}
 use Rattle.archive.specs.declared.replay.Rejection.{Rejection}
 use Rattle.archive.specs.Record.{record_at}
-use Rattle.archive.specs.Replay.{vote_bytes, votes_size, replay_of, state_by, rejection_number}
+use Rattle.archive.specs.declared.replay.Rejection.TheVariants.{Refused, Mismatch}
+use Rattle.codec.specs.declared.refusal.Refusal.TheVariants.{EntryDiffers}
+use Rattle.codec.specs.Refusal.{number}
+use Rattle.archive.specs.Replay.{vote_bytes, votes_size, replay_of, state_by}
 
 -- a state without its settings, and with them
 pub record Core : Type 0 where
@@ -32,10 +35,11 @@ core s = record { table = s.table; next = s.next; tally = s.tally }
 abbrev pub full : VotingConfig → Core → Replay
 full g c = record { settings = g; table = c.table; next = c.next; tally = c.tally }
 
--- the replay's answer, as the rounds see it
-unfoldable pub answer : Result Replay Rejection → Answer Core
-answer (Ok s) = accepted (core s)
-answer (Err e) = refused (rejection_number e)
+-- the replay's answer to a record on a state, as the rounds see it
+unfoldable pub answer : Core → Result Replay Rejection → Answer Core
+answer c (Ok s) = accepted (core s)
+answer c (Err (Refused e)) = refused (number e)
+answer c (Err (Mismatch id)) = refused (number EntryDiffers)
 
 -- the height and the vote bytes of a record
 unfoldable pub record_height : Result RecordPlace Unread → ℕ
@@ -57,10 +61,10 @@ interface g =
       fork_votes = λ c. first_count (pos soft_fork_vote) (entries c.tally);
       height = λ xs. record_height (record_at xs (votes_size g));
       votes = λ xs. record_votes xs (record_at xs (votes_size g));
-      step = λ c xs. answer (replay_of (full g c) xs);
+      step = λ c xs. answer c (replay_of (full g c) xs);
     }
 
--- the state after a list of byte strings: each call gets the state that the last one handed back
+-- the state after a list of byte strings: each call gets the state that the last one left
 unfoldable pub state_after : Replay → List (List ℕ) → Replay
 state_after s [] = s
 state_after s (xs ∷ rest) = state_after (state_by s xs) rest

@@ -2,13 +2,14 @@
 -- Assumes nothing.
 use Rattle.std.specs.Prelude.{Result, Ok, ℕ, ◌/◌, ◌≡◌, List, []}
 use Rattle.voting.specs.Common.{Each, Bytes}
+use Rattle.voting.specs.declared.table.Table.{Table}
 use Rattle.voting.specs.Settings.{voting_length}
 use Rattle.voting.specs.Steps.{Stepped}
 use Rattle.rounds.specs.Epochs.{last_of}
 use Rattle.rounds.specs.Replay.{epochs}
 use Rattle.archive.specs.declared.replay.Replay.{Replay}
 use Rattle.codec.specs.declared.refusal.Refusal.{Refusal}
-use Rattle.archive.specs.Replay.{replay_of}
+use Rattle.archive.specs.Replay.{replay_of, opened}
 use Rattle.archive.specs.Rounds.{core, interface, state_after}
 
 -- the vote bytes of the last accepted record among these calls; if there is none, those of the epoch before the calls
@@ -21,6 +22,7 @@ StepsBy half before s =
     (calls : List (List ℕ)) → Each Bytes calls → (xs : List ℕ) (next : Replay) → replay_of (state_after s calls) xs ≡ Ok next
     → Stepped half (epoch_before before s calls) (state_after s calls).table next.table
 
--- what an opening promises, by its settings: more than half the length. Before its first record no votes were counted
-abbrev pub StepsKept : Result Replay Refusal → Type 0
-StepsKept r = (s : Replay) → r ≡ Ok s → StepsBy (voting_length s.settings / 2) [] s
+-- what an opening with a table promises, refused or not, by its settings: more than half the length. Before its first record no votes were
+-- counted
+abbrev pub StepsKept : Table → Result Replay Refusal → Type 0
+StepsKept t r = StepsBy (voting_length (opened t r).settings / 2) [] (opened t r)

@@ -1,11 +1,11 @@
 // The replay of a record. docs/RULES.md, "Replay".
-ghost use Rattle.std.specs.Prelude.{◌≡◌, ◌+◌, ◌*◌, ◌/◌, ◌≤◌, length, take, drop};
+ghost use Rattle.std.specs.Prelude.{◌≡◌, ◌+◌, ◌*◌, ◌/◌, ◌≤◌, length, take, drop, OnErr};
 ghost use Rattle.voting.specs.Settings.{voting_length, mainnet};
 ghost use Rattle.voting.specs.Tally.{no_tally};
 ghost use Rattle.rounds.specs.Epochs.{boundary_votes};
 ghost use Rattle.archive.specs.declared.replay.Rejection.TheVariants.{Refused, Mismatch};
 ghost use Rattle.archive.specs.ForkVotes.{check_fork_votes};
-ghost use Rattle.archive.specs.Replay.{check_height, check_early, on_parts, onward, after_match, replay_of, Exhausted, LeastOfRecord, rejection_number, rejection_id, may_open, open_of};
+ghost use Rattle.archive.specs.Replay.{check_height, check_early, on_parts, onward, after_match, replay_of, state_by, Exhausted, LeastOfRecord, rejection_number, rejection_id, may_open, open_of, opened, Closed};
 ghost use Rattle.archive.specs.Rounds.{RoundsKept};
 ghost use Rattle.archive.specs.Steps.{StepsKept};
 ghost use Rattle.archive.specs.Mainnet.{MainnetSteps};
@@ -57,13 +57,22 @@ impl From<parameters::Mismatch> for Rejection {
 pub fn open(height: u32, table: Table) -> Result<Replay, Refusal>
     ensures value { result ≡ open_of height table }
     ensures rounds { RoundsKept table result }
-    ensures steps { StepsKept result }
-    ensures mainnet_steps { MainnetSteps result }
+    ensures steps { StepsKept table result }
+    ensures mainnet_steps { MainnetSteps table result }
 {
     if may_open(height) {
         return Ok(start(height, table));
     }
     Err(Refusal::HeightUnexpected)
+}
+
+// The state that an opening with a table gives. Refused: one that expects a height that no epoch reaches, and so turns every well-formed record
+// down by 26.
+pub fn opened(table: Table, answer: Result<Replay, Refusal>) -> Replay
+    ensures value { result ≡ opened table answer }
+    ensures closed { OnErr answer (Closed result) }
+{
+    answer.unwrap_or(start(HEIGHT_LIMIT, table))
 }
 
 impl Replay {
@@ -82,6 +91,13 @@ impl Replay {
             ),
             _ => Err(Rejection::Refused(Refusal::RecordMalformed)),
         }
+    }
+
+    // The state after a record: the next one; where the record is turned down, the state as it was.
+    pub fn after(self, rec: &[u8]) -> Replay
+        ensures { result ≡ state_by self rec.now }
+    {
+        self.replay(rec).unwrap_or(self)
     }
 }
 

@@ -8,7 +8,7 @@ use native.Mathlib.Omega.{arith}
 use borrow.Author.Tests.{eq-eqb, ne_eqb, eqb-true, leb-true}
 use lib.Dec.{ltb, leb, eqb}
 use lib.ListN.{length, get_or, take, drop}
-use Rattle.std.specs.Prelude.{Result, Ok, Err, ⊤}
+use Rattle.std.specs.Prelude.{Result, Ok, Err, ⊤, OnErr}
 use Rattle.std.specs.Result.{result_and, result_unwrap_or}
 use Rattle.codec.specs.declared.refusal.Refusal.{Refusal}
 use Rattle.codec.specs.declared.refusal.Refusal.TheVariants.{RecordMalformed, HeightUnexpected}
@@ -41,7 +41,7 @@ use Rattle.archive.specs.declared.replay.Rejection.TheVariants.{Refused, Mismatc
 use Rattle.archive.specs.Record.{record_at}
 use Rattle.headers.specs.Headers.{check_headers}
 use Rattle.archive.specs.ForkVotes.{check_each_vote, check_fork_votes}
-use Rattle.archive.specs.Replay.{by_refusal, by_mismatch, body_bytes, vote_bytes, onward, boundary_on, after_match, after_boundary, check_height, check_early, on_parts, on_record, votes_size, replay_of, Exhausted, may_open, open_of}
+use Rattle.archive.specs.Replay.{by_refusal, by_mismatch, body_bytes, vote_bytes, onward, boundary_on, after_match, after_boundary, check_height, check_early, on_parts, on_record, votes_size, replay_of, Exhausted, may_open, open_of, opened, Closed}
 use Rattle.archive.specs.Rounds.{RoundsKept}
 use Rattle.archive.specs.Steps.{StepsBy, StepsKept}
 use Rattle.archive.specs.Mainnet.{MainnetSteps}
@@ -228,9 +228,9 @@ exhausted s xs r e l p q w =
     let early = early-height s p.height (vote_bytes xs p) (sym (no-epoch s p.height l)) in
     e ∙ sym (parts-early s p.height (body_bytes xs p) (vote_bytes xs p) early ∙ record-whole s xs p (sym q) w)
 
--- the opening: its answer, the rounds, and the steps
+-- the opening: its answer, the rounds, and the steps, refused or not
 abbrev Opens : ℕ → Table → Result Replay Refusal → Type 0
-Opens height t r = (r ≡ open_of height t) × (RoundsKept t r × (StepsKept r × MainnetSteps r))
+Opens height t r = (r ≡ open_of height t) × (RoundsKept t r × (StepsKept t r × MainnetSteps t r))
 
 steps-from : {t : Table} {n : ℕ} (s : Replay) → s ≡ record { settings = mainnet; table = t; next = n; tally = no_tally } → StepsBy (voting_length s.settings / 2) [] s × StepsBy 512 [] s
 steps-from s q = opening-steps s (ap (λ (x : Replay). x.tally) q) (ap (λ (x : Replay). x.settings) q)
@@ -240,20 +240,35 @@ same-state z = cc
 
 module _ (height : ℕ) (t : Table) (b : Bool) (is_b : b ≡ may_open height) where
   pub open-refused : b ≡ false → Opens height t (Err HeightUnexpected)
-  unfolding open_of
-  open-refused f = (rw (← is_b, f), ((λ v l m k s z. cc), ((λ s z. cc), λ s z. cc)))
+  unfolding open_of opened
+  open-refused f =
+      let k = steps-from (opened t (Err HeightUnexpected)) refl in
+      (rw (← is_b, f), ((λ v l m k s z. cc), (k.0, k.1)))
 
   pub open-opens : b ≡ true → (s : Replay) → s ≡ record { settings = mainnet; table = t; next = height; tally = no_tally } → Opens height t (Ok s)
-  unfolding open_of may_open
+  unfolding open_of opened may_open
   open-opens f s q =
       let a = both (ltb 0 height && eqb (height % voting_length mainnet) 0) _ (sym is_b ∙ f) in
       let m = eqb-true (height % voting_length mainnet) 0 (both (ltb 0 height) _ a.0).1 in
-      let begins : (u : Replay) → ◌≡◌ {A = Result Replay Refusal} (Ok s) (Ok u) → u ≡ record { settings = mainnet; table = t; next = height; tally = no_tally } = λ u z. same-state z ∙ q in (
+      let begins : (u : Replay) → ◌≡◌ {A = Result Replay Refusal} (Ok s) (Ok u) → u ≡ record { settings = mainnet; table = t; next = height; tally = no_tally } = λ u z. same-state z ∙ q in
+      let k = steps-from s q in (
         rw (← is_b, f, q),
         (
           λ v l w k u z calls.
               let i = begins u z in
               kept u v (ap (λ (x : Replay). x.settings) i) (ap (λ (x : Replay). x.next % voting_length mainnet) i ∙ m) (ap (λ (x : Replay). x.tally) i) w (ap (λ (x : Replay). x.table.fork) i ∙ k) calls,
-          (λ u z. (steps-from u (begins u z)).0, λ u z. (steps-from u (begins u z)).1),
+          (k.0, k.1),
         ),
       )
+
+-- the state that an opening gives
+pub opened-is : (t : Table) (r : Result Replay Refusal) {none : Replay} → ((e : Refusal) → none ≡ opened t (Err e)) → result_unwrap_or r none ≡ opened t r
+unfolding opened
+opened-is t (Ok s) q = refl
+opened-is t (Err e) q = q e
+
+-- refused, it turns every well-formed record down by 26
+pub refused-closed : (t : Table) (r : Result Replay Refusal) → OnErr r (Closed (opened t r))
+unfolding opened mainnet
+refused-closed t (Ok s) = tt
+refused-closed t (Err e) = λ xs. exhausted (opened t (Err e)) xs _ refl (omega arith)

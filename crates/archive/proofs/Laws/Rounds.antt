@@ -36,7 +36,7 @@ use Rattle.rounds.specs.Epochs.{boundary_votes, counted}
 use Rattle.rounds.specs.Claim.{Opening}
 use Rattle.rounds.proofs.Mainnet.{mainnet-promise}
 use Rattle.rounds.specs.Replay as Interface
-use Rattle.rounds.specs.Replay.{accepted, run, fork_after, Lawful}
+use Rattle.rounds.specs.Replay.{Answer, refused, accepted, run, fork_after, Lawful}
 use Rattle.extension.specs.declared.boundary.Computed.{Computed}
 use Rattle.extension.specs.declared.parameters.Mismatch.{Mismatch}
 use Rattle.extension.specs.Body.{proposed_update}
@@ -47,7 +47,7 @@ use Rattle.archive.specs.declared.record.RecordPlace.{RecordPlace}
 use Rattle.archive.specs.declared.record.Unread.{Unread}
 use Rattle.archive.specs.declared.replay.Replay.{Replay}
 use Rattle.archive.specs.declared.replay.Rejection.{Rejection}
-use Rattle.archive.specs.declared.replay.Rejection.TheVariants.{Refused}
+use Rattle.archive.specs.declared.replay.Rejection.TheVariants.{Refused, Mismatch as Mismatched}
 use Rattle.archive.specs.Record.{record_at}
 use Rattle.headers.specs.Headers.{check_each, check_headers}
 use Rattle.archive.specs.ForkVotes.{check_each_vote, check_fork_votes}
@@ -222,15 +222,19 @@ pub met : (s : Replay) (xs : List ℕ) (u : Replay) → replay_of s xs ≡ Ok u 
 unfolding replay_of
 met s xs u e = record-met s xs u (record_at xs (votes_size s.settings)) refl e
 
-answer-accepts : (r : Result Replay Rejection) (t : Core) → answer r ≡ accepted t → (u : Replay) × (r ≡ Ok u) × (core u ≡ t)
+turned-down : {n : ℕ} {t : Core} → ◌≡◌ {A = Answer Core} (refused n) (accepted t) → ⊥
+turned-down e = cc
+
+answer-accepts : (c : Core) (r : Result Replay Rejection) (t : Core) → answer c r ≡ accepted t → (u : Replay) × (r ≡ Ok u) × (core u ≡ t)
 unfolding answer
-answer-accepts (Ok u) t e = (u, refl, cc)
-answer-accepts (Err n) t e = cc
+answer-accepts c (Ok u) t e = (u, refl, cc)
+answer-accepts c (Err (Refused k)) t e = absurd (turned-down e)
+answer-accepts c (Err (Mismatched id)) t e = absurd (turned-down e)
 
 pub lawful : (g : VotingConfig) → Lawful g (interface g)
 lawful g c xs t e =
     let s = full g c in
-    let a = answer-accepts (replay_of s xs) t e in
+    let a = answer-accepts c (replay_of s xs) t e in
     let u = a.0 in
     let m = met s xs u a.1 in
     let p = passes g (height_in s xs) c.table (entries c.tally) (boundary_votes (votes_of s xs)) m.disabled m.boundary m.passes in
@@ -259,16 +263,33 @@ accepted-at s xs u e =
 pub settings-kept : (s : Replay) (xs : List ℕ) (u : Replay) → replay_of s xs ≡ Ok u → u.settings ≡ s.settings
 settings-kept s xs u e = (met s xs u e).settings-stay
 
+-- a record that is turned down leaves the state as it was, and one that is accepted the settings
+abbrev pub KeepsBy : Replay → List ℕ → Result Replay Rejection → Type 0
+KeepsBy s xs r = ((e : Rejection) → r ≡ Err e → state_by s xs ≡ s) × ((t : Replay) → r ≡ Ok t → t.settings ≡ s.settings)
+
+abbrev pub Keeps : Replay → List ℕ → Type 0
+Keeps s xs = KeepsBy s xs (replay_of s xs)
+
+pub keeps : (s : Replay) (xs : List ℕ) → Keeps s xs
+unfolding state_by
+keeps s xs = (λ e q. ap (λ (r : Result Replay Rejection). result_unwrap_or r s) q, settings-kept s xs)
+
 -- one call: the settings stay, and the rest of the state is what the rounds see
 call-goes : (s : Replay) (xs : List ℕ)
-    → ((state_by s xs).settings ≡ s.settings) × (core (state_by s xs) ≡ Interface.after (interface s.settings) (core s) (answer (replay_of s xs)))
+    → ((state_by s xs).settings ≡ s.settings) × (core (state_by s xs) ≡ Interface.after (interface s.settings) (core s) (answer (core s) (replay_of s xs)))
 unfolding state_by answer
-call-goes s xs = go (replay_of s xs) (settings-kept s xs)
+call-goes s xs = go (replay_of s xs) refl
   where
-    go : (r : Result Replay Rejection) → ((u : Replay) → r ≡ Ok u → u.settings ≡ s.settings)
-        → ((result_unwrap_or r s).settings ≡ s.settings) × (core (result_unwrap_or r s) ≡ Interface.after (interface s.settings) (core s) (answer r))
-    go (Ok u) k = (k u refl, refl)
-    go (Err e) k = (refl, refl)
+    k : Keeps s xs
+    k = keeps s xs
+
+    go : (r : Result Replay Rejection) → replay_of s xs ≡ r
+        → ((state_by s xs).settings ≡ s.settings) × (core (state_by s xs) ≡ Interface.after (interface s.settings) (core s) (answer (core s) r))
+    go (Ok u) q =
+        let i : state_by s xs ≡ u = ap (λ (r : Result Replay Rejection). result_unwrap_or r s) q in
+        (ap (λ (x : Replay). x.settings) i ∙ k.1 u q, ap core i)
+    go (Err (Refused e)) q = let i = k.0 (Refused e) q in (ap (λ (x : Replay). x.settings) i, ap core i)
+    go (Err (Mismatched id)) q = let i = k.0 (Mismatched id) q in (ap (λ (x : Replay). x.settings) i, ap core i)
 
 pub goes_on : (g : VotingConfig) (s : Replay) → s.settings ≡ g → (calls : List (List ℕ))
     → ((state_after s calls).settings ≡ g) × (core (state_after s calls) ≡ run (interface g) (core s) calls)
@@ -277,7 +298,7 @@ goes_on g s e [] = (e, refl)
 goes_on g s e (xs ∷ calls) =
     let a = call-goes s xs in
     let r = goes_on g (state_by s xs) (a.0 ∙ e) calls in
-    (r.0, r.1 ∙ ap (λ (c : Core). run (interface g) c calls) (subst (λ (h : VotingConfig). core (state_by s xs) ≡ Interface.after (interface h) (core s) (answer (replay_of (full h (core s)) xs))) e a.1))
+    (r.0, r.1 ∙ ap (λ (c : Core). run (interface g) c calls) (subst (λ (h : VotingConfig). core (state_by s xs) ≡ Interface.after (interface h) (core s) (answer (core s) (replay_of (full h (core s)) xs))) e a.1))
 
 -- ---- the theorem
 

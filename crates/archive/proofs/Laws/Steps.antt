@@ -26,6 +26,7 @@ use Rattle.archive.specs.declared.record.RecordPlace.{RecordPlace}
 use Rattle.archive.specs.declared.record.Unread.{Unread}
 use Rattle.archive.specs.declared.replay.Replay.{Replay}
 use Rattle.archive.specs.declared.replay.Rejection.{Rejection}
+use Rattle.archive.specs.declared.replay.Rejection.TheVariants.{Refused, Mismatch}
 use Rattle.archive.specs.Record.{record_at}
 use Rattle.archive.specs.Replay.{votes_size, replay_of, state_by}
 use Rattle.archive.specs.Rounds.{core, answer, record_votes, interface, state_after}
@@ -91,10 +92,11 @@ module _ (s : Replay) (xs before : List ℕ) where
   epoch-next calls = go (replay_of s xs) (settings-kept s xs)
     where
       go : (r : Result Replay Rejection) → ((next : Replay) → r ≡ Ok next → next.settings ≡ s.settings)
-          → last_of before (add-epoch (interface s.settings) xs (answer r) (epochs (interface s.settings) (after (interface s.settings) (core s) (answer r)) calls))
+          → last_of before (add-epoch (interface s.settings) xs (answer (core s) r) (epochs (interface s.settings) (after (interface s.settings) (core s) (answer (core s) r)) calls))
           ≡ epoch_before (newest r (votes_of s xs) before) (result_unwrap_or r s) calls
       go (Ok next) k = ap (λ (g : VotingConfig). last_of (votes_of s xs) (epochs (interface g) (core next) calls)) (sym (k next refl))
-      go (Err e) k = refl
+      go (Err (Refused e)) k = refl
+      go (Err (Mismatch id)) k = refl
 
 brings-after : (s : Replay) (before : List ℕ) (calls : List (List ℕ)) → Each Bytes calls → Brings s before → Brings (state_after s calls) (epoch_before before s calls)
 unfolding state_after epoch_before epochs last_of
