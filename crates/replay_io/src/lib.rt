@@ -4,7 +4,7 @@
 
 ghost use Rattle.std.specs.Io.KnownBytes.{Appends, Consumes, IsAtEnd};
 ghost use Rattle.stream.specs.Driven.{replay_prints};
-ghost use Rattle.std.specs.Prelude.{◌≡◌, ◌<◌, IfSome, false, ◌||◌, cond, ◌≤◌, ltb, eqb, length};
+ghost use Rattle.std.specs.Prelude.{◌≡◌, ◌<◌, IfSome, false, ◌||◌, cond, ◌≤◌, ltb, eqb, length, take};
 ghost use Rattle.codec.specs.declared.refusal.Refusal.TheVariants.{OutputShort};
 ghost use Rattle.voting.specs.Settings.{mainnet};
 ghost use Rattle.ports.specs.Ports.{wrote, sent};
@@ -170,13 +170,13 @@ fn read_all<R: Read, W: Write>(
         got = came.input;
         if came.failed {
             let fed = run::fail(state, cells, out).unwrap();
-            let sent = ports::send(rt, sink, handed, &out[..fed.wrote]);
+            let sent = hand_over(rt, sink, handed, out, fed.wrote);
             return stopped(got, sent.output, false, true, sent.failed, false);
         }
         let n = came.count;
         if n == 0 {
             let fed = run::finish(state, cells, out).unwrap();
-            let sent = ports::send(rt, sink, handed, &out[..fed.wrote]);
+            let sent = hand_over(rt, sink, handed, out, fed.wrote);
             return stopped(got, sent.output, true, false, sent.failed, false);
         }
         let passed = feed_piece(rt, sink, state, cells, &buf[..n], out, handed);
@@ -211,8 +211,7 @@ fn feed_piece<W: Write>(
     let mut at: usize = 0;
     while at < piece.len() {
         let fed = run::feed(state, cells, &piece[at..], out).unwrap();
-        let text = &out[..fed.wrote];
-        let sent = ports::send(rt, sink, handed, text);
+        let sent = hand_over(rt, sink, handed, out, fed.wrote);
         state = fed.run;
         handed = sent.output;
         at += fed.used;
@@ -239,5 +238,14 @@ fn send_head<W: Write>(rt: &impl Eprint, sink: &mut W, out: &mut [u8], output: O
     ensures bytes { result.failed ≡ false → Appends (W.contents sink.old) (W.contents sink.new) head_line }
 {
     let n = lines::write_head(out).unwrap();
+    hand_over(rt, sink, output, out, n)
+}
+
+// Hands over what stands at the start of the buffer. Every text goes this way.
+fn hand_over<W: Write>(rt: &impl Eprint, sink: &mut W, output: Output, out: &[u8], n: usize) -> Sent
+    requires { n ≤ length out.now }
+    ensures booked { result.output ≡ sent result.failed (wrote output (take n out.now)) }
+    ensures bytes { result.failed ≡ false → Appends (W.contents sink.old) (W.contents sink.new) (take n out.now) }
+{
     ports::send(rt, sink, output, &out[..n])
 }

@@ -36,7 +36,7 @@ returns-then-came g c =
     let s2 = g.R.Read.remaining m.new.source in
     let k = g.W.Write.contents a.sink.now in
     let k1 = g.W.Write.contents l.sink in
-    let sent = c.send-sent in
+    let sent = c.hand_over-sent in
     let k2 = g.W.Write.contents sent.new.sink in
     let n = last-wrote _ _ _ _ _ c.fail.ensures.value _ c.unwrap-fed.ensures in
     ends-fail (Consumes s s1) (GoesOn head_line k k1) a.from a.to (18446744073709551615 - l.counter) l.state l.cells l.got l.handed l.invariant.0 r.failed r.input r.count m.new.buf m.ensures.booked
@@ -56,7 +56,7 @@ returns-then-n-eq0 g c =
     let s2 = g.R.Read.remaining m.new.source in
     let k = g.W.Write.contents a.sink.now in
     let k1 = g.W.Write.contents l.sink in
-    let sent = c.send-sent-then-n-eq0 in
+    let sent = c.hand_over-sent-then-n-eq0 in
     let k2 = g.W.Write.contents sent.new.sink in
     let n = last-wrote _ _ _ _ _ c.finish.ensures.value _ c.unwrap-fed-then-n-eq0.ensures in
     ends-finish (Consumes s s1) (GoesOn head_line k k1) a.from a.to (18446744073709551615 - l.counter) l.state l.cells l.got l.handed l.invariant.0 r.failed r.input r.count m.new.buf m.ensures.booked
